@@ -32,7 +32,7 @@ static void stop(const char *text) {
     exit(1);
 }
 
-/* All of standard input, and a line end behind it. */
+/* All of standard input, and a line end after it. */
 static char *input_of(size_t *length) {
     size_t room = 1 << 16;
     char *bytes = malloc(room);

@@ -49,7 +49,7 @@ typedef struct {
 } slif_step;
 
 /* Lengths are told in full where room is short, as by snprintf, and nothing is written past the room; but no zero is written
-   behind a message or a name. A pointer with a count is not null and is aligned, also where the count is 0; the functions of the
+   after a message or a name. A pointer with a count is not null and is aligned, also where the count is 0; the functions of the
    second half allow null. What pointers of one call lead to does not overlap, and does not change while the call runs. No two
    calls over one handle run at once, not even two that only ask. */
 
@@ -64,14 +64,14 @@ uint32_t slif_grammar_counts(slif_grammar *grammar, size_t *symbols, size_t *rul
 uint32_t slif_symbol_name(slif_grammar *grammar, uint32_t symbol, uint8_t *name, size_t room, size_t *length);
 uint32_t slif_rule_left(slif_grammar *grammar, uint32_t rule, uint32_t *left);
 
-/* Reads an input, in UTF-8, and keeps at most `most` of its derivations, in the declared order, behind the first `skip`.
+/* Reads an input, in UTF-8, and keeps at most `most` of its derivations, in the declared order, after the first `skip`.
    What the handle had before is let go, unless the input is refused. */
 uint32_t slif_parse_new(slif_grammar *grammar, const uint8_t *input, size_t length, uint32_t rank, uint64_t skip,
                         uint64_t most, slif_parse *parse, slif_fault *fault, uint8_t *message, size_t message_room,
                         uint32_t *expected, size_t expected_room);
 void slif_parse_free(slif_parse *parse);
 
-/* How many derivations are kept, and whether there are more behind them. */
+/* How many derivations are kept, and whether there are more after them. */
 uint32_t slif_parse_counts(slif_parse *parse, uint64_t *derivations, bool *more);
 
 /* Copies the steps of a derivation from step `from` on; *count is how many there are from there on. */

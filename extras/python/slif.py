@@ -199,7 +199,7 @@ _RESERVED = {"rule", "token", "nulled"}
 
 
 class Parse:
-    """An input that is read, with some of its derivations; `more` says whether there are more behind them."""
+    """An input that is read, with some of its derivations; `more` says whether there are more after them."""
 
     def __init__(self, grammar: Grammar, data: bytes, handle: _Handle):
         self._grammar, self._data, self._handle = grammar, data, handle
@@ -278,7 +278,7 @@ class Grammar:
         raise InputError(text, line, column, [self.symbols[k] for k in expected[:min(fault.expected, _EXPECTED)]])
 
     def parse(self, text: Text, *, rank: str = "rule", skip: int = 0, most: int = 1) -> Parse:
-        """Reads a text, and keeps at most `most` of its derivations, behind the first `skip`; `rank` is none, rule or high."""
+        """Reads a text, and keeps at most `most` of its derivations, after the first `skip`; `rank` is none, rule or high."""
         data = _encoded(text)
         handle, fault, message, expected = _Handle(None, False), _Fault(), ctypes.create_string_buffer(_MESSAGE), (_u32 * _EXPECTED)()
         answer = _lib.slif_parse_new(_by(self._handle), data, len(data), _RANKS[rank], skip, most, _by(handle), _by(fault), message, _MESSAGE, expected, _EXPECTED)

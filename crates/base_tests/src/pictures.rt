@@ -2,7 +2,7 @@
 use std::alloc::{AllocError, Global};
 use std::test::Fail;
 use tree_pictures::push_svg;
-use tree_text::{Node, Part, ReadRefusal, nodes_of, push_dot, push_indented, read_value};
+use tree_text::{Label, Node, Part, ReadRefusal, nodes_of, push_dot, push_indented, read_value};
 
 // How trees are drawn.
 #[derive(Clone, Copy)]
@@ -141,6 +141,25 @@ const PICTURES: &str =
 fn trees_stand_beside_each_other(rt: HostRuntime) -> Result<(), Fail> {
     let texts = ["[\"n\"]", "[\"m\"]"];
     assert!(rt; are_drawn(rt.alloc(), &texts, Drawing::Picture, PICTURES)?);
+    Ok(())
+}
+
+fn node(name: &str, above: Option<usize>) -> Node<'_> {
+    Node {
+        label: Label::Nulled { name },
+        depth: 0,
+        above,
+        last: true,
+        before: 0,
+        tokens: 0,
+    }
+}
+
+// A node that is not there is above nothing: the two are trees of one box each.
+#[test]
+fn an_above_may_be_no_node(rt: HostRuntime) -> Result<(), Fail> {
+    let nodes = [node("n", Some(9)), node("m", None)];
+    assert!(rt; nodes_are(rt.alloc(), &nodes, Drawing::Picture, PICTURES)?);
     Ok(())
 }
 

@@ -1,5 +1,5 @@
 -- A topmost item that is asked for has a rule that the ranking allows over its span: the kept items tell the best one there.
-use Rattle.std.proofs.Common.{◌≡◌, ◌⊎◌, inl, inr, ℕ, ℤ, ◌<◌, ◌≤◌, ◌≤ℤ◌, ◌<ℤ◌, List, Contains, length, refl, sym, subst, arith}
+use Rattle.std.proofs.Common.{◌≡◌, ◌⊎◌, inl, inr, ℕ, ℤ, ◌≤◌, ◌≤ℤ◌, ◌<ℤ◌, List, Contains, length, refl, sym, subst, arith}
 use Rattle.std.proofs.lemmas.Int.{ints}
 use Rattle.std.proofs.lemmas.Cmp.{int_ranked}
 use Rattle.std.specs.declared.cmp.Ordering.{Ordering}
@@ -21,7 +21,7 @@ use Rattle.recognizer_model.specs.Chosen.{flat_rank, allowed_by}
 use Rattle.recognizer_model.specs.Nodes.{IsMet, Whole, Before, Last}
 use Rattle.recognizer_model.specs.Below.{node_of}
 use Rattle.recognizer_model.proofs.Leo.{past_end}
-use Rattle.earley_sets.specs.Recognizer.{Recognizer, earleme_of, set_at, edges_of, top_of}
+use Rattle.earley_sets.specs.Recognizer.{Recognizer, earleme_of, edges_of, top_of}
 use Rattle.earley_sets.specs.Below.{StandsBelow}
 use Rattle.forest_parts.specs.Unasked.{IsOutranked, IsAskedFor, Met, Over}
 use Rattle.forest_parts.specs.Needed.{IsBelowAsked}

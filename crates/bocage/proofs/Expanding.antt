@@ -24,7 +24,7 @@ use Rattle.bocage.specs.declared.walk.Found.{Found}
 use Rattle.bocage.specs.Walk.{IsRead, IsUsedIn, node_of_item, top_key}
 use Rattle.bocage.specs.Chains.{EndsAt}
 use Rattle.bocage.specs.Ends.{IsGoing}
-use Rattle.bocage.specs.Expanded.{IsExpandedIn, IsGivenIn, IsGivenAt, IsGivenFrom}
+use Rattle.bocage.specs.Expanded.{IsExpandedIn}
 use Rattle.bocage.proofs.Splits.{used_met, used_within}
 use Rattle.bocage.proofs.Asking.{IsAsked, asked, least_asked}
 use Rattle.forest_parts.proofs.Counting.{at_place, none_counted, rises_none, at_least_of, count_of, at_least_both, count_both, at_least_placed, count_placed}
@@ -90,26 +90,26 @@ module _ (w : Grammar) (ranking : Ranking) (r : Recognizer) (read : IsRead w r) 
   )
 
 -- one place more
-module _ (w : Grammar) (ranking : Ranking) (r : Recognizer) where
+module _ (Q : Placed → Type 0) where
   abbrev at_end : (end : ℕ) → Placed → Type 0
-  at_end end p = IsGivenIn w ranking r p × (p.place ≡ end)
+  at_end end p = Q p × (p.place ≡ end)
 
-  here : (end : ℕ) (item : Item) → IsGivenAt w ranking r end item → at_end end (at_place end item)
-  here end item h = (h, refl)
+  abbrev from_end : (end : ℕ) → Placed → Type 0
+  from_end end p = Q p × (end ≤ p.place)
 
-  pub within_more : (end k l m : ℕ) → RisesWithin (IsGivenFrom w ranking r (suc end)) k l → RisesWithin (IsGivenAt w ranking r end) l m → RisesWithin (IsGivenFrom w ranking r end) k m
+  pub within_more : (end k l m : ℕ) → RisesWithin (from_end (suc end)) k l → RisesWithin (λ item. Q (at_place end item)) l m → RisesWithin (from_end end) k m
   within_more end k l m (a, some, e) (b, more, e') = (
     a + b,
-    at_least_both (IsGivenFrom w ranking r (suc end)) (at_end end) (IsGivenFrom w ranking r end) (λ p (h, le) (h', e). absurd (omega arith)) (λ p (h, le). (h, omega arith)) (λ p (h, e). (h, omega arith)) a b some
-        (at_least_placed end (IsGivenAt w ranking r end) (at_end end) (here end) b more),
+    at_least_both (from_end (suc end)) (at_end end) (from_end end) (λ p (h, le) (h', e). absurd (omega arith)) (λ p (h, le). (h, omega arith)) (λ p (h, e). (h, omega arith)) a b some
+        (at_least_placed end (λ item. Q (at_place end item)) (at_end end) (λ item h. (h, refl)) b more),
     omega arith,
   )
 
-  pub within_first : (end k l : ℕ) → RisesWithin (IsGivenAt w ranking r end) k l → RisesWithin (IsGivenFrom w ranking r end) k l
-  within_first end k l h = within_more end k k l (rises_none (IsGivenFrom w ranking r (suc end)) k) h
+  pub within_first : (end k l : ℕ) → RisesWithin (λ item. Q (at_place end item)) k l → RisesWithin (from_end end) k l
+  within_first end k l h = within_more end k k l (rises_none (from_end (suc end)) k) h
 
-  pub within_all : (end k l : ℕ) → RisesWithin (IsGivenFrom w ranking r end) k l → RisesWithin (IsGivenIn w ranking r) k l
-  within_all end k l (n, some, e) = (n, at_least_of (IsGivenFrom w ranking r end) (IsGivenIn w ranking r) n (λ p h. h.0) some, e)
+  pub within_all : (end k l : ℕ) → RisesWithin (from_end end) k l → RisesWithin Q k l
+  within_all end k l (n, some, e) = (n, at_least_of (from_end end) Q n (λ p h. h.0) some, e)
 
 -- the kept items of the first places
 module _ (r : Recognizer) (is : IsRecognizer r) where

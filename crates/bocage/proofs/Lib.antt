@@ -16,3 +16,4 @@ pub mod Needing
 pub mod HiddenNodes
 pub mod Allowed
 pub mod Whole
+pub mod Before

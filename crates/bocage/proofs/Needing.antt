@@ -11,7 +11,6 @@ use Rattle.recognizer_model.specs.FlatDerives.{Derives, Token, Null, Rule}
 use Rattle.recognizer_model.specs.Items.{InSet, IsWhole, after, advanced}
 use Rattle.recognizer_model.specs.Leo.{IsLeo, IsNotLeo, LeadsTo}
 use Rattle.recognizer_model.specs.Chosen.{allowed_by}
-use Rattle.recognizer_model.specs.Counts.{IsListOf}
 use Rattle.recognizer_model.specs.Nodes.{IsMet, Whole, Before, Last}
 use Rattle.recognizer_model.proofs.Leo.{past_end, origin_below}
 use Rattle.recognizer_model.proofs.Leaving.{leaves_some}
@@ -23,11 +22,11 @@ use Rattle.earley_sets.proofs.Recognizing.{only}
 use Rattle.forest_parts.specs.declared.parts.Part.{Part}
 use Rattle.forest_parts.specs.Parts.{IsPartAt, IsPartBy, IsWholeOf}
 use Rattle.forest_parts.specs.Unasked.{IsOutranked, IsAskedFor, Met, Over}
+use Rattle.forest_parts.specs.Hidden.{IsHiddenFrom}
 use Rattle.forest_parts.specs.Needed.{IsBelowAsked}
 use Rattle.forest_parts.proofs.Sets.{at_top, goes, waits_exact}
 use Rattle.forest_parts.proofs.Listed.{leo_known, kept_or_hidden, stays}
 use Rattle.forest_parts.proofs.LeftOut.{not_outranked}
-use Rattle.forest_parts.proofs.Tops.{below_hidden}
 use Rattle.bocage.specs.declared.rows.AlternativeRow.{AlternativeRow}
 use Rattle.bocage.specs.declared.walk.Known.{Known}
 use Rattle.bocage.specs.declared.walk.Found.{Found}
@@ -166,10 +165,10 @@ module _ (w : Grammar) (ranking : Ranking) (r : Recognizer) (read : IsRead w r) 
     ]
 
     -- so all that is needed is listed
-    pub needed_are : end ≤ earleme_of r → (items : List Item) → IsListOf (IsBelowAsked w ranking r f.keys.keys end least) items → AreNeeded w ranking r end least items
-    needed_are le items lists = record {
-      hidden = λ item h. below_hidden w ranking r read.is f.keys.keys end least item ((lists.exact item).0 h);
-      all = λ t item stands used. (let (some, met) = (used_met w ranking r read (node_of t end)).0 used in (lists.exact item).1 (t, stands, (late t used, (are_asked le met some refl).itself)));
+    pub needed_are : end ≤ earleme_of r → (items : List Item) → ((item : Item) → Contains items item → IsHiddenFrom r end least item) → ((item : Item) → IsBelowAsked w ranking r f.keys.keys end least item → Contains items item) → AreNeeded w ranking r end least items
+    needed_are le items hidden all = record {
+      hidden = hidden;
+      all = λ t item stands used. (let (some, met) = (used_met w ranking r read (node_of t end)).0 used in all item (t, stands, (late t used, (are_asked le met some refl).itself)));
     }
 
 -- THE PARTS THAT ARE LISTED BY IT

@@ -1,5 +1,5 @@
 -- Hidden items of the places where nodes end: the expanded ones, and those that are items of nodes.
-use Rattle.std.specs.Prelude.{◌≡◌, ℕ, ◌≤◌}
+use Rattle.std.specs.Prelude.{◌≡◌, ℕ}
 use Rattle.recognizer_model.specs.declared.Item.{Item}
 use Rattle.grammar_model.specs.declared.Ranking.{Ranking}
 use Rattle.grammar_model.specs.Grammar.{Grammar}
@@ -39,7 +39,3 @@ IsGivenIn w ranking r p = IsExpandedIn w ranking r p × IsChosenHidden w ranking
 -- such an item of one place
 abbrev pub IsGivenAt : Grammar → Ranking → Recognizer → (end : ℕ) → Item → Type 0
 IsGivenAt w ranking r end item = IsGivenIn w ranking r (record { place = end; item = item })
-
--- such an item of a place or of one after it
-abbrev pub IsGivenFrom : Grammar → Ranking → Recognizer → (end : ℕ) → Placed → Type 0
-IsGivenFrom w ranking r end p = IsGivenIn w ranking r p × (end ≤ p.place)

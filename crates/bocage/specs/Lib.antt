@@ -3,6 +3,7 @@ pub mod Readers
 pub mod Expanded
 pub mod Joins
 pub mod Needed
+pub mod Given
 pub mod Walk
 pub mod Chains
 pub mod Ends

@@ -3,7 +3,7 @@ ghost use Rattle.std.specs.Prelude.{◌≡◌, ◌≢◌, AllPairs, ℕ, ◌<◌
 ghost use Rattle.recognizer_model.specs.declared.NodeKey.{NodeKey as TheKey};
 ghost use Rattle.earley_sets.specs.Recognizer.{IsRecognizer, earleme_of, set_at};
 ghost use Rattle.forest_parts.specs.Hidden.{RisesWithin};
-ghost use Rattle.bocage.specs.Expanded.{IsGivenIn, IsGivenAt};
+ghost use Rattle.bocage.specs.Given.{AreGivenFor, IsGivenAfter, IsAfterAt};
 ghost use Rattle.bocage.specs.Needed.{AreNeeded};
 ghost use Rattle.bocage.specs.Walk.{Knows, IsUsedIn, IsRead, GrowsBy, top_key};
 ghost use Rattle.bocage.specs.Chains.{AreChained, EndsAt};
@@ -17,7 +17,9 @@ use crate::rows::{AlternativeRow, CauseRow};
 use crate::walk::{Found, Known, put_key};
 use bumpalo::Bump;
 use earley_sets::Recce;
-use forest_parts::{Group, NodeKeys, Part, key_at, list_groups, list_needed, list_parts};
+use forest_parts::{
+    Given, Group, NodeKeys, Part, key_at, list_groups, list_needed_after, list_parts,
+};
 use grammar_core::Written;
 use grammar_model::{Edge, Ranking};
 use recognizer_model::{Item, NodeKey};
@@ -292,7 +294,7 @@ fn visit_from<'a>(
     visit_gathered(&known, arena, &work.nodes, first, found, table)
 }
 
-// Finds the alternatives of all nodes that end at a place.
+// Finds the alternatives of all nodes that end at a place. Hidden items that were brought back before are not asked for again.
 fn visit_end<'a, L: Ledger>(
     alloc: Global,
     recce: &Recce<'_>,
@@ -301,6 +303,7 @@ fn visit_end<'a, L: Ledger>(
     arena: &'a Bump,
     end: u32,
     first: usize,
+    given: &Given,
     found: &mut Found,
     table: &mut Vec<&'a [AlternativeRow]>,
     work: &mut Work,
@@ -309,12 +312,13 @@ fn visit_end<'a, L: Ledger>(
     requires read { IsRead w.now recce.now }
     requires end { end ≤ earleme_of recce.now }
     requires going { IsGoing w.now ranking recce.now end first found.old (map (λ r. r.now) table.old.items) }
+    requires given { AreGivenFor w.now ranking recce.now given.now }
     requires few { length work.old.chains.below.items ≤ first }
     requires chained { AreChained found.old.keys.keys work.old.chains.heads.items work.old.chains.below.items }
     ensures chained { OnOk result (AreChained found.new.keys.keys work.new.chains.heads.items work.new.chains.below.items) }
     ensures visited { OnOk result (AreVisited w.now ranking recce.now end found.new (map (λ r. r.now) table.new.items)) }
     ensures grows { OnOk result (GrowsBy (IsUsedIn w.now ranking recce.now) found.old.keys.keys found.new.keys.keys) }
-    ensures counted { RisesWithin (IsGivenAt w.now ranking recce.now end) steps.old steps.new }
+    ensures counted { RisesWithin (IsAfterAt w.now ranking recce.now given.now end) steps.old steps.new }
 {
     list_nodes(&found.keys, first, end, &mut work.chains, &mut work.nodes)?;
     let whole = end == recce.place();
@@ -323,7 +327,7 @@ fn visit_end<'a, L: Ledger>(
     }
     let lowest = if whole { 0 } else { end };
     let least = least_origin(&found.keys, &work.nodes, lowest);
-    let hidden = list_needed(
+    let hidden = list_needed_after(
         alloc,
         recce,
         w,
@@ -331,6 +335,7 @@ fn visit_end<'a, L: Ledger>(
         &found.keys,
         end,
         least,
+        given,
         &mut work.tops,
         &mut work.bottoms,
         steps,
@@ -347,29 +352,31 @@ pub fn walk<'a, L: Ledger>(
     w: &Written,
     ranking: Ranking,
     arena: &'a Bump,
+    given: &Given,
     found: &mut Found,
     work: &mut Work,
     steps: &mut Steps<L>,
 ) -> Result<Vec<&'a [AlternativeRow]>, AllocError>
     requires read { IsRead w.now recce.now }
+    requires given { AreGivenFor w.now ranking recce.now given.now }
     requires used { (key : TheKey) → Contains found.old.keys.keys key → IsUsedIn w.now ranking recce.now key × (key.end ≡ earleme_of recce.now) }
     requires top { 0 < earleme_of recce.now → Contains found.old.keys.keys (top_key recce.now) }
     requires heads { work.old.chains.heads.items ≡ [] }
     requires below { work.old.chains.below.items ≡ [] }
     ensures visited { IfOk result (λ table. AreVisited w.now ranking recce.now 0 found.new (map (λ r. r.now) table.items)) }
     ensures grows { OnOk result (GrowsBy (IsUsedIn w.now ranking recce.now) found.old.keys.keys found.new.keys.keys) }
-    ensures counted { RisesWithin (IsGivenIn w.now ranking recce.now) steps.old steps.new }
+    ensures counted { RisesWithin (IsGivenAfter w.now ranking recce.now given.now) steps.old steps.new }
 {
     let mut table = Vec::new(alloc);
     let earleme = recce.place();
     visit_end(
-        alloc, recce, w, ranking, arena, earleme, 0, found, &mut table, work, steps,
+        alloc, recce, w, ranking, arena, earleme, 0, given, found, &mut table, work, steps,
     )?;
     for back in 0..earleme {
         let first = found.keys.as_slice().len();
         let end = earleme - 1 - back;
         visit_end(
-            alloc, recce, w, ranking, arena, end, first, found, &mut table, work, steps,
+            alloc, recce, w, ranking, arena, end, first, given, found, &mut table, work, steps,
         )?;
     }
     Ok(table)

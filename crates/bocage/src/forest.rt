@@ -7,7 +7,9 @@ ghost use Rattle.recognizer_model.specs.Nodes.{IsStats};
 ghost use Rattle.earley_sets.specs.Recognizer.{HasTree};
 ghost use Rattle.forest_model.specs.Forest.{IsForest, IsNode, allowed_of, edges_of as forest_edges, top_of as forest_top};
 ghost use Rattle.forest_parts.specs.Hidden.{RisesWithin};
+ghost use Rattle.forest_parts.specs.Given.{items_in};
 ghost use Rattle.bocage.specs.Expanded.{IsExpandedIn, IsHiddenNode, IsGivenIn, IsOver};
+ghost use Rattle.bocage.specs.Given.{AreGivenFor, IsGivenAfter};
 ghost use Rattle.bocage.specs.Rows.{cause_told};
 ghost use Rattle.bocage.specs.Readers.{alternative_at, node_at};
 ghost use Rattle.bocage.specs.declared.refusal.ForestRefusal.TheVariants.{NoParse};
@@ -18,7 +20,7 @@ use crate::rows::{AlternativeRow, Cause, alternative_row, cause_at, row_from, ro
 use crate::walk::{Found, begin, differ};
 use bumpalo::Bump;
 use earley_sets::Recce;
-use forest_parts::{count_expanded, key_at};
+use forest_parts::{Given, count_expanded, key_at};
 use grammar_core::{Flat, Written};
 use grammar_model::Ranking;
 use recognizer_model::NodeKey;
@@ -178,10 +180,40 @@ impl<'a> Forest<'a> {
             steps.new ≤ steps.old + n }
         ensures given { RisesWithin (IsGivenIn w.now ranking recce.now) steps.old steps.new }
     {
+        let given = Given::new(alloc);
+        Forest::build_after(alloc, arena, recce, w, ranking, &given, steps)
+    }
+
+    /// The same forest, where some hidden items that it needs were brought back before. These are not asked for again, so no step is
+    /// counted for them: with those that were counted before, the steps are as many as the forest alone may take.
+    pub fn build_after<L: Ledger>(
+        alloc: Global,
+        arena: &'a Bump,
+        recce: &'a Recce<'a>,
+        w: &'a Written,
+        ranking: Ranking,
+        given: &Given,
+        steps: &mut Steps<L>,
+    ) -> Result<Forest<'a>, ForestRefusal>
+        requires checked { IsChecked w.now }
+        requires flat { IsFlatOf recce.now.flat w.now }
+        requires given { AreGivenFor w.now ranking recce.now given.now }
+        ensures forest { IfOk result (λ f. IsForest f) }
+        ensures reading { IfOk result (λ f. IsOver w.now ranking recce.now f) }
+        ensures no_parse { (result ≡ Err NoParse) ↔ (¬ HasTree recce.now) }
+        ensures given { RisesWithin (IsGivenAfter w.now ranking recce.now given.now) steps.old steps.new }
+        ensures after { (start : ℕ) → steps.old ≡ start + items_in given.now →
+            RisesWithin (IsGivenIn w.now ranking recce.now) start steps.new }
+        ensures counted { (start n : ℕ) → steps.old ≡ start + items_in given.now →
+            IsCountOf (IsExpandedIn w.now ranking recce.now) n → steps.new ≤ start + n }
+        ensures needed { (start n : ℕ) → steps.old ≡ start + items_in given.now →
+            IsCountOf (IsHiddenNode w.now recce.now) n → steps.new ≤ start + n }
+    {
+        given.known();
         if !recce.at_end() {
             return Err(ForestRefusal::NoParse);
         }
-        Ok(Forest::grow(alloc, arena, recce, w, ranking, steps)?)
+        Ok(Forest::grow(alloc, arena, recce, w, ranking, given, steps)?)
     }
 
     // The forest of a start that has a tree.
@@ -191,19 +223,21 @@ impl<'a> Forest<'a> {
         recce: &'a Recce<'a>,
         w: &'a Written,
         ranking: Ranking,
+        given: &Given,
         steps: &mut Steps<L>,
     ) -> Result<Forest<'a>, AllocError>
         requires checked { IsChecked w.now }
         requires flat { IsFlatOf recce.now.flat w.now }
+        requires given { AreGivenFor w.now ranking recce.now given.now }
         requires tree { HasTree recce.now }
         ensures reading { IfOk result (λ f. IsOver w.now ranking recce.now f) }
         ensures forest { IfOk result (λ f. IsForest f) }
-        ensures counted { RisesWithin (IsGivenIn w.now ranking recce.now) steps.old steps.new }
+        ensures counted { RisesWithin (IsGivenAfter w.now ranking recce.now given.now) steps.old steps.new }
     {
         let mut found = Found::new(alloc);
         let mut work = Work::new(alloc);
         Forest::grow_in(
-            alloc, arena, recce, w, ranking, &mut found, &mut work, steps,
+            alloc, arena, recce, w, ranking, given, &mut found, &mut work, steps,
         )
     }
 
@@ -214,22 +248,24 @@ impl<'a> Forest<'a> {
         recce: &'a Recce<'a>,
         w: &'a Written,
         ranking: Ranking,
+        given: &Given,
         found: &mut Found,
         work: &mut Work,
         steps: &mut Steps<L>,
     ) -> Result<Forest<'a>, AllocError>
         requires checked { IsChecked w.now }
         requires flat { IsFlatOf recce.now.flat w.now }
+        requires given { AreGivenFor w.now ranking recce.now given.now }
         requires tree { HasTree recce.now }
         requires none { found.old.keys.keys ≡ [] }
         requires heads { work.old.chains.heads.items ≡ [] }
         requires below { work.old.chains.below.items ≡ [] }
         ensures reading { IfOk result (λ f. IsOver w.now ranking recce.now f) }
         ensures forest { IfOk result (λ f. IsForest f) }
-        ensures counted { RisesWithin (IsGivenIn w.now ranking recce.now) steps.old steps.new }
+        ensures counted { RisesWithin (IsGivenAfter w.now ranking recce.now given.now) steps.old steps.new }
     {
         let root = begin(recce, &mut found.keys)?;
-        let table = walk(alloc, recce, w, ranking, arena, found, work, steps)?;
+        let table = walk(alloc, recce, w, ranking, arena, given, found, work, steps)?;
         differ(&found.keys);
         let keys = Vec::from_slice(alloc, found.keys.as_slice())?;
         Ok(Forest {

@@ -17,7 +17,7 @@ use Rattle.item_rows.specs.Rows.{row_at}
 use Rattle.item_rows.specs.Kept.{AreRows}
 use Rattle.leo_items.specs.Memo.{Note}
 use Rattle.earley_sets.specs.Scanning.{GoForward, AreReduced}
-use Rattle.leo_items.specs.Hidden.{IsSingleStep, SomeStepsTwice}
+use Rattle.leo_items.specs.Hidden.{IsSingleStep, SomeStepsTwiceIn}
 use Rattle.leo_items.specs.Hidden.{LeadsUpIn, IsBottomIn, IsBelowIn, IsBottomOf, IsBelowOf}
 use Rattle.earley_sets.specs.Recognizer.{IsKept}
 use Rattle.earley_sets.proofs.ByRows.{goes_forward, to_leo, from_leo, to_leads, from_leads}
@@ -81,7 +81,7 @@ module _ (g : FlatGrammar) (start : ℕ) (edges : List HeldEdge) (rows : List (L
     abbrev pub TwiceThere : Type 0
     TwiceThere = (item : Item) × (Contains (row_at rows j) item × IsWhole g item) × ((step : Item) × (StepsThere item step × (from ≤ step.origin)) × ((next : Item) × StepsThere step next))
 
-    pub twice_there : SomeStepsTwice g rows j from ↔ TwiceThere
+    pub twice_there : SomeStepsTwiceIn g rows j from ↔ TwiceThere
     twice_there = (
       λ (item, is, (step, (lt, up, le), (next, n))). (item, is, (step, ((step_there item step).0 (lt, up, omega arith), le), (next, (step_there step next).0 n))),
       λ (item, is, (step, (s, le), (next, n))). (item, is, (step, (let (lt, up, low) = (step_there item step).1 s in (lt, up, le)), (next, (step_there step next).1 n))),

@@ -12,3 +12,5 @@ pub mod Counting
 pub mod Lowest
 pub mod Tops
 pub mod Taking
+pub mod Rows
+pub mod Rest

@@ -74,6 +74,14 @@ none_below w ranking r is keys end least none items empty = subst (IsListOf (IsB
   exact = λ item. (λ h. absurd (Contains-none item h), λ below. (let (hidden, late) = below_hidden w ranking r is keys end least item below in absurd (none item late hidden)));
 })
 
+-- and nothing is below none
+pub none_of : (r : Recognizer) (end : ℕ) (tops items : List Item) → tops ≡ [] → items ≡ [] → IsListOf (StandsBelowOf r end tops) items
+none_of r end tops items e e' =
+    subst (λ t. IsListOf (StandsBelowOf r end t) items) (sym e) (subst (λ l. IsListOf (StandsBelowOf r end []) l) (sym e') (record {
+      once = λ i j d lt below q. absurd (omega arith);
+      exact = λ item. (λ h. absurd (Contains-none item h), λ (t, h, stands). absurd (Contains-none t h));
+    }))
+
 -- THE TOPMOST ITEM OF ONE
 
 module _ (r : Recognizer) (is : IsRecognizer r) (end : ℕ) where

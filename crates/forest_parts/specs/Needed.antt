@@ -8,6 +8,7 @@ use Rattle.recognizer_model.specs.Items.{IsWhole}
 use Rattle.earley_sets.specs.Recognizer.{Recognizer, set_at}
 use Rattle.earley_sets.specs.Below.{LeadsUp, StandsBelow}
 use Rattle.forest_parts.specs.Unasked.{IsAskedFor}
+use Rattle.forest_parts.specs.Given.{GivenAt, IsInGiven}
 
 -- a whole item that begins at `least` or after it, and may be that of a node
 abbrev pub MayBeUsed : (unasked : List Item) → (least : ℕ) → Item → Type 0
@@ -27,3 +28,13 @@ abbrev pub IsBelowAsked : Grammar → Ranking → Recognizer → List NodeKey �
 IsBelowAsked w ranking r keys end least item =
     (topmost : Item) × StandsBelow r end topmost item ×
     ((least ≤ topmost.origin) × IsAskedFor w ranking r keys end topmost)
+
+-- such an item that was not brought back before
+abbrev pub IsAskedAnew : Grammar → Ranking → Recognizer → List NodeKey → List GivenAt → (end least : ℕ) → Item → Type 0
+IsAskedAnew w ranking r keys given end least item =
+    IsBelowAsked w ranking r keys end least item × (¬ IsInGiven given (record { place = end; item = item }))
+
+-- such an item that is not among some
+abbrev pub IsAskedBeside : Grammar → Ranking → Recognizer → List NodeKey → (items : List Item) → (end least : ℕ) → Item → Type 0
+IsAskedBeside w ranking r keys items end least item =
+    IsBelowAsked w ranking r keys end least item × (¬ Contains items item)

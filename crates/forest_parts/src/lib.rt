@@ -3,6 +3,7 @@
 
 mod counts;
 mod gather;
+mod given;
 mod groups;
 mod keys;
 mod needed;
@@ -12,7 +13,8 @@ mod unasked;
 
 pub use counts::count_expanded;
 pub use gather::{list_hidden, list_parts};
+pub use given::{Given, GivenHere};
 pub use groups::{Group, list_groups};
 pub use keys::{NodeKeys, key_at};
-pub use needed::list_needed;
+pub use needed::{list_needed, list_needed_after};
 pub use parts::{Part, RuleKey, is_null_high, parts_between};

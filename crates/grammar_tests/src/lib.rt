@@ -10,12 +10,12 @@ mod grammars;
 #[cfg(test)]
 mod lengths;
 #[cfg(test)]
+mod leo;
+#[cfg(test)]
 mod lexemes;
 #[cfg(test)]
 mod readings;
 #[cfg(test)]
 mod sets;
-#[cfg(test)]
-mod vast_levels;
 #[cfg(test)]
 mod written;

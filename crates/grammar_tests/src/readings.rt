@@ -3,6 +3,7 @@ ghost use Rattle.std.specs.Prelude.{◌≡◌, ◌<◌, length};
 ghost use Rattle.earley_sets.specs.Recognizer.{earleme_of};
 
 use crate::grammars::{Language, flat_of, written_of};
+use crate::leo::has_step;
 use anyhow::bail;
 use earley_sets::{AlternativeRefusal, Recce};
 use grammar_core::{Flat, SymbolId, Written};
@@ -31,6 +32,8 @@ pub(crate) enum Step {
     AllKeep(&'static [usize]),
     /// how many items each of the sets hides
     AllHide(&'static [usize]),
+    /// the step of the items that wait for a flat symbol in a set, by its rule, dot and origin
+    Leads(u32, u32, Option<(u32, u32, u32)>),
     /// whether a tree spans all places
     Ends(bool),
 }
@@ -146,6 +149,7 @@ fn sees<L: Ledger>(
         Step::Expects(terminals) => expects(alloc, recce, terminals),
         Step::AllKeep(sizes) => Ok(all_keep(recce, sizes)),
         Step::AllHide(sizes) => all_hide(alloc, recce, sizes, steps),
+        Step::Leads(j, symbol, wanted) => has_step(alloc, recce, j, symbol, wanted),
         Step::Ends(wanted) => Ok(recce.at_end() == wanted),
         _ => Ok(false),
     }

@@ -178,6 +178,26 @@ static ANSWERS: &[Step] = &[
     Step::Expects(&[2]),
 ];
 
+// S -> C x | a B, C -> S, B -> b; flat, the symbols are x, a, b, S, C, B and the top, and the rules stand in this order
+const RETURNS: Language = Language {
+    names: &["S", "C", "x", "a", "B", "b"],
+    lines: &[(0, &[1, 2]), (0, &[3, 4]), (1, &[0]), (4, &[5])],
+};
+
+// In the first set two items wait for S, and the one that waits for C waits for more; after `a` one waits for B, and for nothing more.
+static STEPS: &[Step] = &[
+    Step::Read(&[3]),
+    Step::Leads(1, 5, Some((1, 2, 0))),
+    Step::Leads(0, 3, None),
+    Step::Leads(0, 4, None),
+];
+
+#[test]
+fn a_completion_leads_on_where_one_item_waits(rt: HostRuntime) -> Result<(), Fail> {
+    assert!(rt; goes(rt.alloc(), &RETURNS, STEPS)?);
+    Ok(())
+}
+
 #[test]
 fn sets_have_the_sizes_of_the_rows(rt: HostRuntime) -> Result<(), Fail> {
     for (language, table) in ROWS {

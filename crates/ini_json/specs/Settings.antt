@@ -2,7 +2,6 @@
 use Rattle.std.specs.Prelude.{ℕ, ◌==◌, if◌then◌else◌, List, [], ◌∷◌, ◌++◌, flat_map}
 use Rattle.grammar_model.specs.Trees.{Tree, Children, Leaf, Nulled, Node, NoChild, Child}
 use Rattle.grammar_model.specs.Values.{Token, token_at}
-use Rattle.ini_json.specs.declared.tree.TheConstants.{FILE, SECTIONS, SECTION, ENTRIES, ENTRY, SETTING}
 
 -- a name and its text
 pub record Setting : Type 0 where
@@ -45,6 +44,26 @@ abbrev pub group_in : Part → List Group
 group_in (OneGroup group) = group ∷ []
 group_in part = []
 
+-- RULES OF THE PROGRAM'S GRAMMAR: their numbers, from 0 in the order of its text
+
+abbrev pub file_rule : ℕ
+file_rule = 1
+
+abbrev pub sections_rule : ℕ
+sections_rule = 2
+
+abbrev pub section_rule : ℕ
+section_rule = 3
+
+abbrev pub entries_rule : ℕ
+entries_rule = 4
+
+abbrev pub entry_rule : ℕ
+entry_rule = 5
+
+abbrev pub text_rule : ℕ
+text_rule = 6
+
 -- WHAT RULES MAKE OF THEIR PARTS
 
 -- of empty lines, groups and empty lines
@@ -75,12 +94,12 @@ groups_among parts = flat_map group_in parts
 
 abbrev pub part_by : (rule : ℕ) → List Part → Part
 part_by rule parts =
-    if rule == FILE then file_part parts else
-    (if rule == SECTIONS then Groups (groups_among parts) else
-    (if rule == SECTION then section_part parts else
-    (if rule == ENTRIES then Settings (settings_among parts) else
-    (if rule == ENTRY then entry_part parts else
-    (if rule == SETTING then only_part parts else Blank)))))
+    if rule == file_rule then file_part parts else
+    (if rule == sections_rule then Groups (groups_among parts) else
+    (if rule == section_rule then section_part parts else
+    (if rule == entries_rule then Settings (settings_among parts) else
+    (if rule == entry_rule then entry_part parts else
+    (if rule == text_rule then only_part parts else Blank)))))
 
 -- OF A TREE: a token is a word, and a symbol that spans nothing is left out
 

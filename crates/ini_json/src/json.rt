@@ -1,7 +1,7 @@
 // The syntax tree as JSON.
 ghost use Rattle.std.specs.Prelude.{◌≡◌, ◌++◌, ◌<◌, OnOk, IfSome, IfNone, string_bytes, chars, flat_map, map, encode_utf8, codes, true, false};
 ghost use Rattle.grammar_model.specs.Text.{hex_digit};
-ghost use Rattle.ini_json.specs.Json.{json_plain, json_character, json_string, comma, setting_json, settings_json, group_json, groups_json, json_text, is_escaped};
+ghost use Rattle.ini_json.specs.Json.{plain_json, character_json, text_json, comma, setting_json, settings_json, group_json, groups_json, file_json, is_escaped};
 ghost use Rattle.ini_json.specs.Nodes.{setting_of, group_of};
 
 use crate::node::{Entry, Section};
@@ -30,8 +30,8 @@ fn hex(n: u8) -> char
     char::from(digit)
 }
 
-/// The code of a control character, for which JSON has an escape.
-fn control_code(c: char) -> Option<u8>
+/// The code of a character before the space, which JSON has only escaped.
+fn escaped_code(c: char) -> Option<u8>
     ensures some { IfSome result (λ code. code ≡ c) }
     ensures is { IfSome result (λ _. is_escaped c ≡ true) }
     ensures none { IfNone result (is_escaped c ≡ false) }
@@ -43,9 +43,9 @@ fn control_code(c: char) -> Option<u8>
 }
 
 fn put_plain(c: char, out: &mut String) -> Result<(), AllocError>
-    ensures { OnOk result (string_bytes out.new ≡ string_bytes out.old ++ json_plain c) }
+    ensures { OnOk result (string_bytes out.new ≡ string_bytes out.old ++ plain_json c) }
 {
-    match control_code(c) {
+    match escaped_code(c) {
         Some(code) => {
             put("\\u00", out)?;
             put_char(hex(code / 16), out)?;
@@ -57,7 +57,7 @@ fn put_plain(c: char, out: &mut String) -> Result<(), AllocError>
 
 /// Appends a character as it stands inside quotes.
 fn put_character(c: char, out: &mut String) -> Result<(), AllocError>
-    ensures { OnOk result (string_bytes out.new ≡ string_bytes out.old ++ json_character c) }
+    ensures { OnOk result (string_bytes out.new ≡ string_bytes out.old ++ character_json c) }
 {
     match c {
         '"' => put("\\\"", out),
@@ -67,7 +67,7 @@ fn put_character(c: char, out: &mut String) -> Result<(), AllocError>
 }
 
 fn put_inside(text: &str, out: &mut String) -> Result<(), AllocError>
-    ensures { OnOk result (string_bytes out.new ≡ string_bytes out.old ++ flat_map json_character
+    ensures { OnOk result (string_bytes out.new ≡ string_bytes out.old ++ flat_map character_json
         (chars text.now)) }
 {
     for c in text.chars() {
@@ -76,8 +76,8 @@ fn put_inside(text: &str, out: &mut String) -> Result<(), AllocError>
     Ok(())
 }
 
-fn put_string(text: &str, out: &mut String) -> Result<(), AllocError>
-    ensures { OnOk result (string_bytes out.new ≡ string_bytes out.old ++ json_string text.now) }
+fn put_text(text: &str, out: &mut String) -> Result<(), AllocError>
+    ensures { OnOk result (string_bytes out.new ≡ string_bytes out.old ++ text_json text.now) }
 {
     put("\"", out)?;
     put_inside(text, out)?;
@@ -95,9 +95,9 @@ fn put_entry(entry: &Entry, out: &mut String) -> Result<(), AllocError>
     ensures { OnOk result (string_bytes out.new ≡ string_bytes out.old ++ setting_json
         (setting_of entry.now)) }
 {
-    put_string(&entry.name, out)?;
+    put_text(&entry.name, out)?;
     put(":", out)?;
-    put_string(&entry.text, out)
+    put_text(&entry.text, out)
 }
 
 fn put_entries(entries: &[Entry], out: &mut String) -> Result<(), AllocError>
@@ -117,7 +117,7 @@ fn put_section(section: &Section, out: &mut String) -> Result<(), AllocError>
     ensures { OnOk result (string_bytes out.new ≡ string_bytes out.old ++ group_json
         (group_of section.now)) }
 {
-    put_string(&section.name, out)?;
+    put_text(&section.name, out)?;
     put(":{", out)?;
     put_entries(&section.entries, out)?;
     put("}", out)
@@ -138,7 +138,7 @@ fn put_sections(sections: &[Section], out: &mut String) -> Result<(), AllocError
 
 /// Appends an object of the sections, each an object of its names and texts.
 pub(crate) fn put_json(sections: &[Section], out: &mut String) -> Result<(), AllocError>
-    ensures { OnOk result (string_bytes out.new ≡ string_bytes out.old ++ json_text
+    ensures { OnOk result (string_bytes out.new ≡ string_bytes out.old ++ file_json
         (map group_of sections.now)) }
 {
     put("{", out)?;

@@ -20,9 +20,9 @@ file ::= <empty lines>
 sections ::= section+ separator => ends proper => 1
 section ::= ('[') name (']') entries
 entries ::= entry*
-entry ::= (ends) name ('=') setting
-setting ::= value
-setting ::=
+entry ::= (ends) name ('=') text
+text ::= value
+text ::=
 <empty lines> ::= eol*
 ends ::= eol+
 name ~ [\\w.-]+

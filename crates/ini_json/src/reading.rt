@@ -3,7 +3,7 @@ ghost use Rattle.std.specs.Prelude.{◌≡◌, IfOk, IfErr, string_bytes};
 ghost use Rattle.grammar_model.specs.declared.Ranking.TheVariants.{Rule};
 ghost use Rattle.ini_json.specs.Settings.{groups_of};
 ghost use Rattle.ini_json.specs.Nodes.{part_of};
-ghost use Rattle.ini_json.specs.Json.{json_text};
+ghost use Rattle.ini_json.specs.Json.{file_json};
 ghost use Rattle.ini_json.specs.Texts.{IsFirstJson, IsNotDerived, IsJsonOf, IsRefusalOf};
 
 use crate::json::put_json;
@@ -55,7 +55,7 @@ fn first_json(alloc: Global, forest: &Forest<'_>) -> Result<String, NoMemory>
 
 /// The JSON of a whole tree.
 fn json_of_file(alloc: Global, file: Node) -> Result<String, NoMemory>
-    ensures { IfOk result (λ json. string_bytes json ≡ json_text (groups_of (part_of file))) }
+    ensures { IfOk result (λ json. string_bytes json ≡ file_json (groups_of (part_of file))) }
 {
     let mut json = String::new(alloc);
     put_json(&file.sections(alloc), &mut json)?;

@@ -18,7 +18,7 @@ const ENTRIES: u32 = 4;
 
 const ENTRY: u32 = 5;
 
-const SETTING: u32 = 6;
+const TEXT: u32 = 6;
 
 /// Makes the syntax tree, with the allocator of its texts.
 #[derive(Drop)]
@@ -61,7 +61,7 @@ impl Semantics for TreeMaker {
             SECTION => Ok(section_of(self.alloc, children)),
             ENTRIES => Ok(Node::Entries(entries_of(self.alloc, children)?)),
             ENTRY => Ok(entry_of(self.alloc, children)),
-            SETTING => Ok(only_of(children)),
+            TEXT => Ok(only_of(children)),
             _ => Ok(Node::Nothing),
         }
     }

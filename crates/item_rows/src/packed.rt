@@ -9,7 +9,7 @@ ghost use Rattle.kernels.specs.Slots.{Rises, placed_all, AreSlotted};
 ghost use Rattle.item_rows.specs.Dotted.{unpacked, IsPackedRow, AreDotted, IsRowOfParts, AreWithin, row_items};
 
 use crate::dotted::{DottedRules, Span, begin, unpack};
-use kernels::{Kernel, ORIGINS, slot_of};
+use kernels::{KernelRef, ORIGINS, slot_of};
 use recognizer_model::Item;
 use std::alloc::{AllocError, AllocFailed};
 use std::marker::Model;
@@ -18,7 +18,7 @@ use std::marker::Model;
 #[derive(Drop)]
 pub struct Row<'r> {
     rules: &'r [Item],
-    kernel: Kernel<'r>,
+    kernel: KernelRef<'r>,
     begun: &'r [u32],
     earleme: u32,
 }
@@ -62,7 +62,12 @@ impl<'r> Row<'r> {
 }
 
 /// A row of two parts.
-pub fn row_of<'r>(rules: &'r [Item], kernel: Kernel<'r>, begun: &'r [u32], earleme: u32) -> Row<'r>
+pub fn row_of<'r>(
+    rules: &'r [Item],
+    kernel: KernelRef<'r>,
+    begun: &'r [u32],
+    earleme: u32,
+) -> Row<'r>
     requires slotted { AreSlotted kernel.origins.now kernel.slotted.now }
     requires parts { IsRowOfParts rules.now earleme
         (placed_all kernel.origins.now kernel.slotted.now) begun.now }
@@ -274,7 +279,7 @@ fn first_of(number: u32) -> u64
 // The items of a row whose dotted rules are of a span.
 fn narrowed<'r>(
     dotted: &'r DottedRules<'_>,
-    kernel: Kernel<'r>,
+    kernel: KernelRef<'r>,
     begun: &'r [u32],
     earleme: u32,
     span: Span,
@@ -288,7 +293,7 @@ fn narrowed<'r>(
         others ×
         (result ≡ row_items dotted.now.rules earleme own others) }
 {
-    let own = Kernel {
+    let own = KernelRef {
         slotted: within_span(kernel.slotted, span),
         ..kernel
     };
@@ -299,7 +304,7 @@ fn narrowed<'r>(
 /// The items of a row that wait for a symbol.
 pub fn waiting<'r>(
     dotted: &'r DottedRules<'_>,
-    kernel: Kernel<'r>,
+    kernel: KernelRef<'r>,
     begun: &'r [u32],
     earleme: u32,
     symbol: u32,
@@ -320,7 +325,7 @@ pub fn waiting<'r>(
 /// The items of a row with the dot at the end.
 pub fn whole<'r>(
     dotted: &'r DottedRules<'_>,
-    kernel: Kernel<'r>,
+    kernel: KernelRef<'r>,
     begun: &'r [u32],
     earleme: u32,
 ) -> Row<'r>
@@ -340,7 +345,7 @@ pub fn whole<'r>(
 /// The items of a row that wait for terminals.
 pub fn scanned<'r>(
     dotted: &'r DottedRules<'_>,
-    kernel: Kernel<'r>,
+    kernel: KernelRef<'r>,
     begun: &'r [u32],
     earleme: u32,
 ) -> Row<'r>
@@ -365,7 +370,7 @@ fn has_slotted(slotted: &[u64], number: u64) -> bool
 }
 
 // Whether a packed item is one of a kernel.
-fn has_own(kernel: Kernel<'_>, number: u64) -> bool
+fn has_own(kernel: KernelRef<'_>, number: u64) -> bool
     requires { AreSlotted kernel.origins.now kernel.slotted.now }
     ensures { IsTrue result ↔
         Contains (placed_all kernel.entry.origins.now kernel.entry.slotted.now) number }
@@ -386,7 +391,7 @@ fn has_dotted(begun: &[u32], number: u32) -> bool
 /// Whether an item is in a row.
 pub fn contains(
     dotted: &DottedRules<'_>,
-    kernel: Kernel<'_>,
+    kernel: KernelRef<'_>,
     begun: &[u32],
     earleme: u32,
     item: Item,

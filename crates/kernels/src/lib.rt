@@ -4,5 +4,5 @@
 mod shapes;
 mod slots;
 
-pub use shapes::{Kernel, Kernels};
+pub use shapes::{KernelRef, Kernels};
 pub use slots::{ORIGINS, slot_of};

@@ -21,7 +21,7 @@ pub struct Shape {
 
 /// A kernel: the number of the list that its row shares, slotted items, and the origins of their slots.
 #[derive(Clone, Copy)]
-pub struct Kernel<'r> {
+pub struct KernelRef<'r> {
     pub begun: u32,
     pub slotted: &'r [u64],
     pub origins: &'r [u32],
@@ -76,7 +76,7 @@ impl Kernels {
     }
 
     /// A kernel, by its row's number.
-    pub fn kernel(&self, j: usize) -> Kernel<'_>
+    pub fn kernel(&self, j: usize) -> KernelRef<'_>
         requires { j < length self.now }
         ensures begun { result.begun ≡ (kernel_at self.now j).begun }
         ensures slotted { AreSlotted result.origins.now result.slotted.now }
@@ -84,7 +84,7 @@ impl Kernels {
             (kernel_at self.now j).packed }
     {
         let shape = shape_at(&self.shapes, &self.kinds, j);
-        Kernel {
+        KernelRef {
             begun: shape.begun,
             slotted: &shape.slotted,
             origins: self.origins.row(j),

@@ -22,3 +22,5 @@ mod texts;
 mod token_rows;
 #[cfg(test)]
 mod values;
+#[cfg(test)]
+mod vast_levels;

@@ -11,7 +11,7 @@ use Rattle.recognizer_model.specs.Items.{IsWhole, advanced}
 use Rattle.recognizer_model.specs.Counts.{IsListOf}
 use Rattle.item_rows.specs.Rows.{row_at}
 use Rattle.item_rows.specs.Kept.{AreRows}
-use Rattle.leo_items.specs.Hidden.{IsSingleStep, StepsTwice, SomeStepsTwice}
+use Rattle.leo_items.specs.Hidden.{IsSingleStep, StepsTwice, SomeStepsTwiceIn}
 use Rattle.leo_items.proofs.Chains.{leo_inside}
 
 module _ (g : FlatGrammar) (rows : List (List Item)) (earleme from : ℕ) where
@@ -55,8 +55,8 @@ module _ (g : FlatGrammar) (rows : List (List Item)) (earleme from : ℕ) where
       ]
 
   module _ (items : List Item) (lists : IsListOf (λ item. Contains (row_at rows earleme) item × IsWhole g item) items) where
-    pub some_twice : (item : Item) → Contains items item → StepsTwice g rows earleme from item → IsTrue true ↔ SomeStepsTwice g rows earleme from
+    pub some_twice : (item : Item) → Contains items item → StepsTwice g rows earleme from item → IsTrue true ↔ SomeStepsTwiceIn g rows earleme from
     some_twice item there twice = (λ _. (item, (lists.exact item).0 there, twice), λ _. refl)
 
-    pub none_twice : NoneStepsTwice items → IsTrue false ↔ SomeStepsTwice g rows earleme from
+    pub none_twice : NoneStepsTwice items → IsTrue false ↔ SomeStepsTwiceIn g rows earleme from
     none_twice none = (λ t. absurd (cc), λ (item, is, twice). absurd (none item ((lists.exact item).1 is) twice))

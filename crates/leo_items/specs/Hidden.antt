@@ -56,5 +56,5 @@ abbrev pub StepsTwice : FlatGrammar → List (List Item) → (earleme from : ℕ
 StepsTwice g rows earleme from item = (step : Item) × IsSingleStep g rows earleme from item step × ((next : Item) × IsSingleStep g rows earleme 0 step next)
 
 -- from a whole item of the row they do
-abbrev pub SomeStepsTwice : FlatGrammar → List (List Item) → (earleme from : ℕ) → Type 0
-SomeStepsTwice g rows earleme from = (item : Item) × (Contains (row_at rows earleme) item × IsWhole g item) × StepsTwice g rows earleme from item
+abbrev pub SomeStepsTwiceIn : FlatGrammar → List (List Item) → (earleme from : ℕ) → Type 0
+SomeStepsTwiceIn g rows earleme from = (item : Item) × (Contains (row_at rows earleme) item × IsWhole g item) × StepsTwice g rows earleme from item

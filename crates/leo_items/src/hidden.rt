@@ -6,7 +6,7 @@ ghost use Rattle.recognizer_model.specs.Counts.{IsListOf};
 ghost use Rattle.item_rows.specs.Kept.{AreItems, HasRows};
 ghost use Rattle.leo_items.specs.ByRows.{IsMemo, AreNulled};
 ghost use Rattle.leo_items.specs.Closed.{IsReached, Grows};
-ghost use Rattle.leo_items.specs.Hidden.{IsFrom, IsSingleStep, NoneLeadsOn, IsHiddenIn, LeadsUpIn, IsBottomIn, IsBottomOf, IsBelowOf, StepsTwice, SomeStepsTwice};
+ghost use Rattle.leo_items.specs.Hidden.{IsFrom, IsSingleStep, NoneLeadsOn, IsHiddenIn, LeadsUpIn, IsBottomIn, IsBottomOf, IsBelowOf, StepsTwice, SomeStepsTwiceIn};
 
 use crate::chain::{find, pair_above, step_in};
 use crate::{Memo, NearHasher};
@@ -200,7 +200,7 @@ fn steps_twice(flat: &Flat, rows: &Rows<'_>, earleme: u32, from: u32, item: Item
 pub fn some_steps_twice(flat: &Flat, rows: &Rows<'_>, earleme: u32, from: u32) -> bool
     requires rows { HasRows flat.now rows.now }
     requires earleme { earleme < length rows.now.sets }
-    ensures { IsTrue result ↔ SomeStepsTwice flat.now rows.now.sets earleme from }
+    ensures { IsTrue result ↔ SomeStepsTwiceIn flat.now rows.now.sets earleme from }
 {
     let whole = rows.whole(earleme as usize);
     for k in 0..whole.len() {

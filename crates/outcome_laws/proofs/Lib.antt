@@ -2,3 +2,14 @@ mod Refusing
 mod Stopping
 mod Telling
 mod Library
+mod RightText
+mod RightShape
+mod RightFlat
+mod RightSets
+mod RightNodes
+mod RightTrees
+mod RightLinks
+mod RightReading
+mod RightAccepted
+mod RightRuns
+mod Figures

@@ -1,9 +1,10 @@
 -- What a forest tells of the derivations of a reading.
-use Rattle.std.proofs.Common.{Bool, true, false, Result, ◌≡◌, ℕ, ◌≤◌, List, [], ◌∷◌, ◌++◌, Option, refl, ap, subst, ◌∙◌}
+use Rattle.std.proofs.Common.{Bool, true, false, Result, ◌≡◌, ℕ, ◌≤◌, List, [], ◌∷◌, ◌++◌, Option, refl, sym, ap, subst, ◌∙◌}
 use Rattle.std.specs.Prelude.{IfErr}
 use Rattle.std.specs.List.{concat}
 use Rattle.std.specs.Io.KnownBytes.{Appends}
 use Rattle.finite_sets.proofs.Lists.{Contains-none}
+use Rattle.slif_base.proofs.Bytes.{appends_none}
 use Rattle.grammar_model.specs.Trees.{Tree}
 use Rattle.grammar_core.specs.declared.steps.Span.{Span}
 use Rattle.forest_model.specs.Forest.{Forest}
@@ -51,6 +52,10 @@ module _ (asked : ValuesAsked) (b : Built) (given cs : List ℕ) (spans : List S
   values_done before middle after text more =
       let (trees, l, first) = text has.pieces has.of in
       lines_done Told (values trees ++ stats_lines asked.stats n) (value_told trees l) before after (appends_both (values trees) (stats_lines asked.stats n) before middle after first more)
+
+  -- none were asked for
+  pub only_done : asked.stats ≡ false → (before after : Option (List ℕ)) → TextHas b asked.show cs spans f asked.first (λ text. Appends before after text) → Does Told before after
+  only_done off before after text = values_done before after after text (subst (λ s. Appends after after (concat (stats_lines s n))) (sym off) (appends_none after))
 
   -- they were not
   pub stats_stop : (before middle after : Stream) (stop : Stop) → TextHas b asked.show cs spans f asked.first (λ text. Appends before.bytes middle.bytes text) → before.faults ≤ middle.faults

@@ -30,7 +30,7 @@ use Rattle.recognizer_model.specs.Links.{IsPlacedLink, IsLeoPair}
 use Rattle.run_model.specs.Steps.{IsWithinLooks}
 use Rattle.tellings.specs.Telling.{HasForest, GoesOnWithin}
 use Rattle.text_reading.specs.Parts.{BuildsWithin}
-use Rattle.text_reading.proofs.Derived.{listed, some_listing}
+use Rattle.text_reading.proofs.Derived.{listed}
 
 -- A READING AND WHAT FOLLOWS IT
 
@@ -68,13 +68,13 @@ module _ (b : Built) (recce : Recognizer) (is : IsRecognizer recce) (pieces : Li
           let pairs_are = as_held (λ es place. IsCountOf (IsLeoPair recce.flat (FlatEdges recce.flat (Held es)) (top_of recce) place) pairs) p in
           reads links pairs links_are pairs_are
 
-module _ (b : Built) (asked : ValuesAsked) (given cs : List ℕ) (spans : List Span) (f : Forest) (has : HasForest b given asked.ranking cs spans f) (forest : IsForest f) where
+module _ (b : Built) (asked : ValuesAsked) (given cs : List ℕ) (spans : List Span) (f : Forest) (has : HasForest b given asked.ranking cs spans f) (some : (trees : List Tree) × IsListing f trees) where
   pub lists_within : (recce : Recognizer) (held_spans : List Span) → IsRecognizer recce → IsReadingOfWith b given cs recce held_spans AtEnd → (read built after : ℕ)
       → BuildsWithin b.g1 asked.ranking recce read built
       → ((trees : List Tree) → IsListing f trees → after ≤ built + sum_by choices (first_of asked.first trees))
       → GoesOnWithin (Values asked) b given cs recce read after
   lists_within recce held_spans is reading read built after builds gives =
-      let (trees, l) = some_listing b given asked.ranking cs spans f has forest in
+      let (trees, l) = some in
       let (same, ends) = reading_is_one b given cs reading.pieces has.pieces End End reading.is_reading has.reading in
       let holds : HoldsPieces b has.pieces recce = subst (λ (ps : List Piece). HoldsPieces b ps recce) same reading.holds in
       record {

@@ -6,6 +6,7 @@ use Rattle.finite_sets.proofs.Lists.{Contains-none, get_index}
 use Rattle.grammar_model.specs.Grammar.{Grammar, slot_of}
 use Rattle.grammar_model.specs.Trees.{Tree}
 use Rattle.grammar_model.specs.Derives.{Held, Derives}
+use Rattle.grammar_model.specs.Steps.{Step}
 use Rattle.grammar_model.specs.Checked.{IsChecked}
 use Rattle.grammar_model.specs.declared.Edge.{Edge}
 use Rattle.grammar_model.specs.declared.Ranking.{Ranking}
@@ -35,7 +36,12 @@ use Rattle.run_model.specs.Listing.{AreDerivations}
 use Rattle.run_model.specs.Telling.{no_derivation_text}
 use Rattle.text_reading.specs.declared.refusal.Place.{Place}
 use Rattle.text_reading.specs.Refusals.{IsNoDerivation}
-use Rattle.text_reading.specs.Parts.{IsChosenOf, HasForest, BuildsWithin, AreExpectedOf}
+use Rattle.forest_parts.specs.Hidden.{RisesWithin}
+use Rattle.forest_parts.proofs.Counting.{rises_of, rises_most}
+use Rattle.bocage.specs.Expanded.{IsExpandedIn, IsHiddenNode, IsGivenIn}
+use Rattle.value_lines.specs.Writing.{IsAllAsked}
+use Rattle.first_walk.specs.Place.{reading_of}
+use Rattle.text_reading.specs.Parts.{IsChosenOf, HasForest, HasOnly, BuildsWithin, AreExpectedOf}
 
 -- A FOREST HAS A DERIVATION
 
@@ -89,13 +95,13 @@ all_as w v es gs r s k p q ts same_w same_e same_r same_k same_p d =
 -- WHERE THE FOREST IS BUILT
 
 module _ (b : Built) (given : List ℕ) (ranking : Ranking) (cs : List ℕ) (recce : Recognizer) (spans : List Span) (few : length cs ≤ LONGEST_INPUT) (read : IsReadingOfWith b given cs recce spans AtEnd) where
-  pub has_forest : (f : Forest) → IsForest f → (w : Grammar) → w ≡ b.g1 → f.written ≡ w → f.flat ≡ recce.flat → f.start ≡ recce.start → f.edges ≡ recce.edges → f.place ≡ earleme_of recce → f.ranking ≡ ranking
-      → HasForest b given ranking cs spans f
-  has_forest f is w same written flat start edges place ranked =
+  -- a forest, or what a forest is of, with one of its derivations
+  pub has_some : (f : Forest) (t : Tree) → IsChosenOf f.written f.edges f.ranking f.start f.place t → f.written ≡ b.g1 → f.flat ≡ recce.flat → f.start ≡ recce.start → f.edges ≡ recce.edges → f.place ≡ earleme_of recce
+      → f.ranking ≡ ranking → HasForest b given ranking cs spans f
+  has_some f t chosen written flat start edges place ranked =
       let start_is = start ∙ read.holds.start in
       let edges_are = edges ∙ read.holds.edges in
       let place_is = place ∙ read.holds.place in
-      let some = has_derivation f is in
       record {
         pieces = read.pieces;
         reading = read.is_reading;
@@ -104,15 +110,30 @@ module _ (b : Built) (given : List ℕ) (ranking : Ranking) (cs : List ℕ) (rec
           given = given;
           reading = read.is_reading;
           spans_are = read.spans_are;
-          written = written ∙ same;
+          written = written;
           flat = subst (IsFlattened b.g1) (sym flat) read.holds.flat;
           start = start_is;
           edges = edges_are;
           place = place_is;
         };
         ranking_is = ranked;
-        tree = some.0;
-        chosen = chosen_as f.written b.g1 f.edges (edges_of read.pieces) f.ranking ranking f.start f.place (earleme_after read.pieces) some.0 (written ∙ same) edges_are ranked start_is place_is some.1;
+        tree = t;
+        chosen = chosen_as f.written b.g1 f.edges (edges_of read.pieces) f.ranking ranking f.start f.place (earleme_after read.pieces) t written edges_are ranked start_is place_is chosen;
+      }
+
+  pub has_forest : (f : Forest) → IsForest f → (w : Grammar) → w ≡ b.g1 → f.written ≡ w → f.flat ≡ recce.flat → f.start ≡ recce.start → f.edges ≡ recce.edges → f.place ≡ earleme_of recce → f.ranking ≡ ranking
+      → HasForest b given ranking cs spans f
+  has_forest f is w same written flat start edges place ranked =
+      let some = has_derivation f is in
+      has_some f some.0 some.1 (written ∙ same) flat start edges place ranked
+
+  -- one derivation that is all that is asked for, without a forest
+  pub has_only : (w : Grammar) → w ≡ b.g1 → (first : Option ℕ) (list : List Step) → IsAllAsked (reading_of w ranking recce) first list → HasOnly b given ranking first cs spans recce list
+  has_only w same first list asked =
+      let here : IsAllAsked (reading_of b.g1 ranking recce) first list = subst (λ (x : Grammar). IsAllAsked (reading_of x ranking recce) first list) same asked in
+      record {
+        has = has_some (reading_of b.g1 ranking recce) here.tree ((here.listing.each here.tree).0 (0, omega arith, refl)) refl refl refl refl refl refl;
+        asked = here;
       }
 
   -- no tree, no derivation
@@ -146,6 +167,13 @@ module _ (b : Built) (given : List ℕ) (ranking : Ranking) (cs : List ℕ) (rec
 -- the steps of a forest, by an equal grammar
 pub builds_within : (recce : Recognizer) (ranking : Ranking) (w g : Grammar) (before after : ℕ) → w ≡ g → BuildsWithin w ranking recce before after → BuildsWithin g ranking recce before after
 builds_within recce ranking w g before after same within = subst (λ (x : Grammar). BuildsWithin x ranking recce before after) same within
+
+-- those of hidden items that were brought back
+pub given_within : (recce : Recognizer) (ranking : Ranking) (w g : Grammar) (before after : ℕ) → w ≡ g → RisesWithin (IsGivenIn w ranking recce) before after → BuildsWithin g ranking recce before after
+given_within recce ranking w g before after same rises = builds_within recce ranking w g before after same (record {
+  expanded = λ n all. rises_most (IsExpandedIn w ranking recce) before after n (rises_of (IsGivenIn w ranking recce) (IsExpandedIn w ranking recce) before after (λ p h. h.0) rises) all;
+  needed = λ n all. rises_most (IsHiddenNode w recce) before after n (rises_of (IsGivenIn w ranking recce) (IsHiddenNode w recce) before after (λ p (expanded, (node, below)). node) rises) all;
+})
 
 -- WHAT THE FOREST LISTS
 

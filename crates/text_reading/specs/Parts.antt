@@ -3,6 +3,7 @@ use Rattle.std.specs.Prelude.{◌≡◌, ℕ, ◌+◌, ◌≤◌, List, [], ◌�
 use Rattle.std.specs.Str.{IsValidUpTo}
 use Rattle.grammar_model.specs.Grammar.{Grammar, slot_of}
 use Rattle.grammar_model.specs.Trees.{Tree}
+use Rattle.grammar_model.specs.Steps.{Step}
 use Rattle.grammar_model.specs.Derives.{Held, Derives}
 use Rattle.grammar_model.specs.declared.Edge.{Edge}
 use Rattle.grammar_model.specs.declared.Ranking.{Ranking}
@@ -25,6 +26,8 @@ use Rattle.run_model.specs.Inputs.{stop_text}
 use Rattle.scanless.specs.Reading.{HoldsPieces, IsReadingOfWith}
 use Rattle.scanless.specs.declared.reading.Ending.{Ending}
 use Rattle.value_lines.specs.Lines.{IsForestOf}
+use Rattle.value_lines.specs.Writing.{IsAllAsked}
+use Rattle.first_walk.specs.Place.{reading_of}
 use Rattle.text_reading.specs.declared.refusal.Place.{Place}
 use Rattle.text_reading.specs.Refusals.{place_in, fault_at}
 
@@ -110,6 +113,11 @@ pub record HasForest (b : Built) (given : List ℕ) (ranking : Ranking) (cs : Li
   pub ranking_is : f.ranking ≡ ranking
   pub tree : Tree
   pub chosen : IsChosenOf b.g1 (edges_of pieces) ranking 0 (earleme_after pieces) tree
+
+-- of the characters' chosen derivations, with these lexemes given, so many of the first are one, which has these steps
+pub record HasOnly (b : Built) (given : List ℕ) (ranking : Ranking) (first : Option ℕ) (cs : List ℕ) (spans : List Span) (r : Recognizer) (steps : List Step) : Type 0 where
+  pub has : HasForest b given ranking cs spans (reading_of b.g1 ranking r)
+  pub asked : IsAllAsked (reading_of b.g1 ranking r) first steps
 
 -- the steps of a reading's forest: at most one for each hidden item that begins no earlier than a used node with the same end, and at
 -- most one for each that has a node

@@ -2,7 +2,7 @@
 use Rattle.std.proofs.Common.{◌≡◌, ℕ, zero, suc, ◌+◌, ◌<◌, ◌≤◌, List, [], ◌∷◌, ◌++◌, length, map, take, inl, inr, ◌⊎◌, Some, refl, sym, ap, ◌∙◌, subst, append_assoc, length-append, arith}
 use Rattle.std.specs.Prelude.{Bool, true, false, cond, sum, slice_get, option_to_list}
 use Rattle.std.proofs.Math.Seq.{take-append_seam, take-length}
-use Rattle.std.proofs.lemmas.List.{take-append-le, append_assoc, map-append, length-take-le}
+use Rattle.std.proofs.lemmas.List.{take-append-le, append_assoc, map-append, length-take-le, take_more}
 use Rattle.std.proofs.lemmas.List.Sums.{sum_by-cons}
 use Rattle.finite_sets.proofs.Members.{contains_from}
 use Rattle.finite_sets.proofs.Lists.{get_among, got_at}
@@ -17,8 +17,9 @@ use Rattle.recognizer_model.specs.Flat.{FlatGrammar, lhs_of}
 use Rattle.recognizer_model.specs.FlatForm.{IsFlatOf, symbol_at, written_symbol, is_list}
 use Rattle.forest_laws.specs.Written.{sum_newest, older, is_list_rule, step_written, counts_after, steps_written}
 use Rattle.tree_iter.specs.declared.writing.CountRow.{CountRow}
+use Rattle.tree_iter.specs.declared.writing.FlatStep.{FlatStep}
 use Rattle.tree_iter.specs.declared.writing.Effect.{Effect}
-use Rattle.tree_iter.specs.Writing.{IsCounted, AreOnTop, AreTakenOff, IsEffect, counts_behind, AreCounted, AreDone}
+use Rattle.tree_iter.specs.Writing.{flat_step, IsCounted, AreOnTop, AreTakenOff, IsEffect, counts_behind, AreCounted, AreDone}
 use Rattle.tree_iter.proofs.Linked.{linked_more, linked_taken, linked_push, linked_top, linked_none, linked_bound}
 use Rattle.tree_iter.proofs.GoalLemmas.{index_is}
 
@@ -79,6 +80,20 @@ done_more w g rows steps done step effect h is = record {
     append_nil : {X : Type 0} (xs : List X) → xs ++ [] ≡ xs
     append_nil [] = refl
     append_nil (x ∷ xs) = ap (λ l. x ∷ l) (append_nil xs)
+
+-- nothing is done yet
+pub done_none : (w : Grammar) (g : FlatGrammar) (rows : List CountRow) (steps : List TreeStep) → rows ≡ [] → steps ≡ [] → AreDone w g rows steps []
+done_none w g rows steps e e' = record {
+  counted = record { all = ap length e; each = λ n le. (let none : n ≡ 0 = omega arith in subst (λ k. IsCounted rows k (counts_behind g [] (take k []))) (sym none) refl) };
+  written = ap (map step_of) e';
+}
+
+-- the next of some steps is done
+pub done_next : (w : Grammar) (g : FlatGrammar) (steps : List FlatStep) (k : ℕ) (step : FlatStep) (rows : List CountRow) (all : List TreeStep) → slice_get steps k ≡ Some step →
+    AreDone w g rows all (map flat_step (take k steps) ++ flat_step step ∷ []) → AreDone w g rows all (map flat_step (take (k + 1) steps))
+done_next w g steps k step rows all at h =
+    let (lt, same) = got_at steps k step step (sym at) in
+    subst (AreDone w g rows all) (sym (ap (map flat_step) (take_more steps k step lt ∙ ap (λ s. take k steps ++ s ∷ []) same) ∙ map-append flat_step (take k steps) (step ∷ []))) h
 
 -- steps are undone, from the last on
 pub done_taken : (w : Grammar) (g : FlatGrammar) (rows : List CountRow) (steps : List TreeStep) (a b : List Step) → AreDone w g rows steps (a ++ b) →

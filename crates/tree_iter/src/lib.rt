@@ -9,3 +9,4 @@ mod walk;
 mod writing;
 
 pub use iter::TreeIter;
+pub use writing::{FlatStep, write_steps};

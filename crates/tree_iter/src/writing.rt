@@ -1,16 +1,17 @@
 //! Steps of flat derivations, written one after another as steps of what they stand for.
-ghost use Rattle.std.specs.Prelude.{◌≡◌, ◌^◌, ◌<◌, ◌∷◌, ◌++◌, [], ℕ, List, length, map, slice_get, vec_len, vec_capacity, Some, option_to_list, OnOk, OnErr, false};
+ghost use Rattle.std.specs.Prelude.{◌≡◌, ◌^◌, ◌<◌, ◌∷◌, ◌++◌, [], ℕ, List, length, map, slice_get, vec_len, vec_capacity, Some, Contains, option_to_list, IfOk, OnOk, OnErr, false};
 ghost use Rattle.grammar_core.specs.Steps.{step_of};
 ghost use Rattle.grammar_model.specs.Grammar.{Grammar};
 ghost use Rattle.grammar_model.specs.Steps.{Step, RuleStep};
 ghost use Rattle.recognizer_model.specs.Flat.{IsRule, source_of};
 ghost use Rattle.recognizer_model.specs.FlatForm.{IsFlatOf, symbol_at, written_symbol as stands_for};
-ghost use Rattle.forest_laws.specs.Written.{is_list_rule as is_rule_of_list, rule_written};
+ghost use Rattle.forest_laws.specs.Written.{is_list_rule as is_rule_of_list, rule_written, steps_written};
+ghost use Rattle.tree_iter.specs.declared.writing.FlatStep.{FlatStep as TheStep};
 ghost use Rattle.tree_iter.specs.Writing.{flat_step, IsStepOf, IsCounted, AreOnTop, AreTakenOff, IsEffect, AreDone};
 
 use grammar_core::{Flat, FlatSource, FlatSymbol, SymbolId, TreeStep, Written};
 use slif_base::number;
-use std::alloc::AllocError as NoMemory;
+use std::alloc::{AllocError as NoMemory, Global};
 
 /// A step of a flat derivation, by the numbers of flat symbols and rules.
 #[derive(Clone, Copy)]
@@ -246,4 +247,31 @@ pub fn write_step(
     let effect = effect_of(counts, flat, written, step);
     put_effect(counts, steps, effect);
     Ok(())
+}
+
+fn step_at(steps: &[FlatStep], k: usize) -> FlatStep
+    requires { k < length steps.now }
+    ensures { slice_get steps.now k ≡ Some result }
+{
+    steps[k]
+}
+
+/// Writes flat steps, one after another, as steps of the written grammar.
+pub fn write_steps(
+    alloc: Global,
+    flat: &Flat,
+    written: &Written,
+    steps: &[FlatStep],
+) -> Result<Vec<TreeStep>, NoMemory>
+    requires flat_of { IsFlatOf flat.now written.now }
+    requires steps { (step : TheStep) → Contains steps.now step → IsStepOf flat.now (flat_step step) }
+    ensures { IfOk result (λ all. map step_of all.items ≡
+        steps_written written.now flat.now [] (map flat_step steps.now)) }
+{
+    let mut counts = Vec::new(alloc);
+    let mut all = Vec::new(alloc);
+    for k in 0..steps.len() {
+        write_step(&mut counts, &mut all, flat, written, step_at(steps, k))?;
+    }
+    Ok(all)
 }

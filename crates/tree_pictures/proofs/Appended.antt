@@ -1,8 +1,8 @@
 -- A text to which pieces are appended, and the boxes that are written one after the other.
-use Rattle.std.proofs.Common.{◌≡◌, ℕ, ◌+◌, Bool, true, false, Option, List, [], ◌∷◌, ◌++◌, length, refl, sym, ap, ◌∙◌, subst, append_assoc, arith}
+use Rattle.std.proofs.Common.{◌≡◌, ℕ, ◌+◌, Bool, true, false, Option, List, [], ◌∷◌, ◌++◌, length, refl, ap, ◌∙◌, subst, append_assoc, arith}
 use Rattle.std.specs.Prelude.{if◌then◌else◌}
 use Rattle.tree_text.specs.declared.nodes.Node.{Node}
-use Rattle.tree_pictures.specs.declared.outlines.Tile.{Tile}
+use Rattle.tree_pictures.specs.declared.places.Tile.{Tile}
 use Rattle.tree_pictures.specs.Boxes.{shares, labels_from, aboves_from}
 use Rattle.tree_pictures.specs.Pictures.{IsPicture}
 

@@ -1,2 +1,6 @@
 mod Eaches
 mod Appended
+mod Counts
+mod Setting
+mod Bounded
+mod Before

@@ -1,10 +1,13 @@
 -- The boxes of a picture: each node stands in one, and a node alone below the one before it may stand in that one's.
-use Rattle.std.specs.Prelude.{ℕ, ◌+◌, ◌-◌, ◌==◌, ◌&&◌, ◌≡◌, nat_lt, Bool, true, false, if◌then◌else◌, List, [], ◌∷◌, ◌++◌, length, slice_get, slice_index, codes, bytes_eq, Option, Some, None}
+use Rattle.std.specs.Prelude.{ℕ, ◌+◌, ◌-◌, ◌==◌, ◌&&◌, ◌≡◌, ◌<◌, nat_lt, Bool, true, false, if◌then◌else◌, List, [], ◌∷◌, ◌++◌, length, slice_get, slice_index, slice_index_or, codes, bytes_eq, map, count_by, Option, Some, None}
+use Rattle.std.specs.List.{range_with_len}
 use Rattle.tree_text.specs.declared.nodes.Label.{Label}
 use Rattle.tree_text.specs.declared.nodes.Label.TheVariants as label
 use Rattle.tree_text.specs.declared.nodes.Node.{Node}
 use Rattle.tree_text.specs.Written.{name_text, label_text}
-use Rattle.tree_pictures.specs.declared.outlines.Tile.{Tile}
+use Rattle.tree_text.specs.Nested.{AreNested}
+use Rattle.tree_pictures.specs.declared.places.Tile.{Tile}
+use Rattle.tree_pictures.specs.Places.{width_for, ArePlaced}
 use Rattle.tree_pictures.specs.Pictures.{IsPicture}
 
 -- LABELS
@@ -26,7 +29,25 @@ short_label (label.Text text) = label_text (label.Text text)
 abbrev pub dot : List ℕ
 dot = 32 ∷ 194 ∷ 183 ∷ 32 ∷ []
 
--- BOXES, by how many nodes are counted right below each node
+-- COUNTS
+
+abbrev pub is_that : ℕ → Option ℕ → Bool
+is_that i None = false
+is_that i (Some above) = above == i
+
+abbrev pub one_if : Bool → ℕ
+one_if true = 1
+one_if false = 0
+
+-- how many of the nodes have the one at i right above them
+abbrev pub count_below : List Node → ℕ → ℕ
+count_below nodes i = count_by (λ node. is_that i node.above) nodes
+
+-- how many are right below each node
+abbrev pub counts_of : List Node → List ℕ
+counts_of nodes = map (count_below nodes) (range_with_len 0 (length nodes))
+
+-- BOXES, by how many nodes are right below each node
 
 abbrev pub is_behind : Option ℕ → ℕ → Bool
 is_behind None i = false
@@ -36,7 +57,7 @@ is_behind (Some above) i = above + 1 == i
 abbrev pub shares : List ℕ → ℕ → Node → Bool
 shares counts i node = is_behind node.above i && ((slice_index counts (i - 1) == 1) && nat_lt 0 (slice_index counts i))
 
--- what is in a box behind its first node
+-- what is in a box after its first node
 abbrev pub label_behind : List ℕ → ℕ → List Node → List ℕ
 label_behind counts i [] = []
 label_behind counts i (node ∷ nodes) = if shares counts i node then dot ++ (short_label node.label ++ label_behind counts (i + 1) nodes) else []
@@ -69,11 +90,17 @@ aboves_from counts places i [] = []
 aboves_from counts places i (node ∷ nodes) =
     if shares counts i node then aboves_from counts places (i + 1) nodes else place_of places node.above ∷ aboves_from counts places (i + 1) nodes
 
--- the boxes of the nodes, where the counts say which nodes share one
+abbrev pub places_of : List Node → List ℕ
+places_of nodes = places_from (counts_of nodes) 0 0 nodes
+
+-- the boxes of the nodes: their texts, and the box right above each
 pub record AreBoxes (nodes : List Node) (labels : List (List ℕ)) (aboves : List (Option ℕ)) : Type 0 where
-  pub counts : List ℕ
-  pub labels_are : labels ≡ labels_from counts 0 nodes
-  pub aboves_are : aboves ≡ aboves_from counts (places_from counts 0 0 nodes) 0 nodes
+  pub labels_are : labels ≡ labels_from (counts_of nodes) 0 nodes
+  pub aboves_are : aboves ≡ aboves_from (counts_of nodes) (places_of nodes) 0 nodes
+
+-- the one right above each comes before it
+abbrev pub AreBefore : List (Option ℕ) → Type 0
+AreBefore aboves = (i above : ℕ) → slice_index_or aboves i None ≡ Some above → above < i
 
 -- the text is a picture of the boxes of the nodes, each of which has its place
 pub record IsDrawing (nodes : List Node) (text : List ℕ) : Type 0 where
@@ -81,7 +108,8 @@ pub record IsDrawing (nodes : List Node) (text : List ℕ) : Type 0 where
   pub aboves : List (Option ℕ)
   pub tiles : List Tile
   pub boxes : AreBoxes nodes labels aboves
-  pub each : length tiles ≡ length labels
+  pub before : AreNested nodes → AreBefore aboves
+  pub placed : ArePlaced tiles (map width_for labels) aboves
   pub picture : IsPicture tiles labels aboves text
 
 pub record AddsDrawing (nodes : List Node) (old new : List ℕ) : Type 0 where

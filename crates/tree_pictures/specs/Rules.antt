@@ -87,7 +87,7 @@ is_statement (Some Empty) = true
 abbrev pub left_from : List ℕ → Node → List Node → List ℕ
 left_from left node nodes = if is_rule (codes "rules") node || is_statement (form_of node (node ∷ nodes)) then left_of (node ∷ nodes) else left
 
--- RIGHT SIDES, by the nodes behind the rule's
+-- RIGHT SIDES, by the nodes after the rule's
 
 abbrev pub after_space : Option (List ℕ) → List ℕ
 after_space None = []
@@ -125,7 +125,7 @@ is_some (Some text) = true
 abbrev pub separates_from : Bool → Node → Bool
 separates_from separates node = separates || is_rule (codes "separator") node
 
--- what stands behind the left side, which is the first name
+-- what stands after the left side, which is the first name
 abbrev pub sequence_from : (separates named : Bool) → List Node → List ℕ
 sequence_from separates named [] = []
 sequence_from separates named (node ∷ nodes) =

@@ -1,7 +1,7 @@
 // The boxes of a picture: of each node one, but a chain of nodes, each the only one right below the one before, has one box.
-ghost use Rattle.std.specs.Prelude.{◌≡◌, ◌++◌, ◌+◌, ◌<◌, IfOk, OnOk, string_bytes, slice_index, length, map, drop};
+ghost use Rattle.std.specs.Prelude.{◌≡◌, ◌++◌, ◌+◌, ◌<◌, IfOk, OnOk, string_bytes, slice_index, EachIndex, length, replicate, map, drop};
 ghost use Rattle.tree_pictures.specs.Boxes as boxes;
-ghost use Rattle.tree_pictures.specs.Boxes.{is_quoted, short_label, is_behind, dot, label_behind, box_label, labels_from, places_from, place_of, aboves_from, AreBoxes};
+ghost use Rattle.tree_pictures.specs.Boxes.{is_that, one_if, counts_of, is_quoted, short_label, is_behind, dot, label_behind, box_label, labels_from, places_from, place_of, aboves_from, AreBoxes};
 
 use crate::puts::put;
 use std::alloc::{AllocError, Global};
@@ -43,17 +43,35 @@ fn push_short_label(alloc: Global, label: Label<'_>, out: &mut String) -> Result
     }
 }
 
-/// How many nodes are right below each node.
-fn counts_below(alloc: Global, nodes: &[Node<'_>]) -> Result<Vec<usize>, AllocError> {
-    let mut counts = vec![in alloc; 0usize; nodes.len()]?;
-    for node in nodes {
-        let Some(above) = node.above else {
-            continue;
-        };
-        if let Some(count) = counts.get_mut(above) {
-            *count = count.saturating_add(1);
+/// Counts one more at a place, if it is there.
+fn count_one(at: Option<usize>, counts: &mut [usize])
+    requires { EachIndex counts.old (λ k. slice_index counts.old k < usize.MAX) }
+    ensures { EachIndex counts.new (λ k. slice_index counts.new k ≡ slice_index counts.old k +
+        one_if (is_that k at)) }
+{
+    if let Some(at) = at {
+        if at < counts.len() {
+            counts[at] += 1;
         }
     }
+}
+
+/// Counts each node at the place of the one right above it.
+fn count_all(nodes: &[Node<'_>], counts: &mut [usize])
+    requires { counts.old ≡ replicate (length nodes.now) 0 }
+    ensures { counts.new ≡ counts_of nodes.now }
+{
+    for node in nodes {
+        count_one(node.above, counts);
+    }
+}
+
+/// How many nodes are right below each node.
+fn counts_below(alloc: Global, nodes: &[Node<'_>]) -> Result<Vec<usize>, AllocError>
+    ensures { IfOk result (λ counts. counts.items ≡ counts_of nodes.now) }
+{
+    let mut counts = vec![in alloc; 0usize; nodes.len()]?;
+    count_all(nodes, &mut counts);
     Ok(counts)
 }
 
@@ -81,7 +99,7 @@ fn shares(counts: &[usize], i: usize, node: &Node<'_>) -> bool
         && count_at(counts, i) > 0
 }
 
-/// Appends what is in a box behind its first node, which is the one before this place.
+/// Appends what is in a box after its first node, which is the one before this place.
 fn push_behind(
     alloc: Global,
     counts: &[usize],
@@ -177,8 +195,9 @@ fn aboves_of(
     Ok(aboves)
 }
 
-/// The boxes of some nodes, in their order, by how many nodes are counted right below each node.
+/// The boxes of some nodes, in their order, by how many nodes are right below each node.
 fn boxes_by(alloc: Global, counts: &[usize], nodes: &[Node<'_>]) -> Result<Boxes, AllocError>
+    requires { counts.now ≡ counts_of nodes.now }
     ensures boxes { IfOk result (λ all. AreBoxes nodes.now (map string_bytes all.labels.items)
         all.aboves.items) }
     ensures each { IfOk result (λ all. length all.labels.items ≡ length all.aboves.items) }

@@ -3,6 +3,7 @@
 
 mod boxes;
 mod outlines;
+mod places;
 mod puts;
 mod rules;
 mod svg;

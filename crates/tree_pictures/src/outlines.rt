@@ -1,7 +1,4 @@
-// Where the boxes of a picture stand: what is below a box under its middle, and beside one another as close as outlines allow.
-ghost use Rattle.std.specs.Prelude.{◌≡◌, IfOk, length};
-
-use crate::boxes::Boxes;
+// Where boxes are to stand: what is below a box under its middle, and beside one another as close as outlines allow.
 use std::alloc::{AllocError, Global};
 
 // Sizes in pixels: between neighbours, between trees, and at the picture's edge.
@@ -11,24 +8,16 @@ const BETWEEN: i64 = 60;
 
 const MARGIN: i64 = 10;
 
-// Of a character, and around a text.
-const CHARACTER: usize = 9;
-
-const PADDING: usize = 14;
-
-/// Where a box stands.
+/// A box that hangs below another one.
 #[derive(Clone, Copy)]
-pub(crate) struct Tile {
-    pub(crate) width: usize,
+struct Hanging {
+    width: usize,
     /// The box right above it.
     above: Option<usize>,
-    /// How many boxes are above it.
-    pub(crate) row: usize,
     /// How many boxes are right below it.
     below: usize,
-    /// Where its middle is, and where it begins.
-    pub(crate) middle: i64,
-    pub(crate) left: i64,
+    /// Where its middle is.
+    middle: i64,
     /// How far what is below it is moved to the right.
     shift: i64,
 }
@@ -46,7 +35,7 @@ struct Outline {
     rows: Vec<Ends>,
     shift: i64,
     /// The first box of the top row.
-    tile: usize,
+    top: usize,
 }
 
 impl Outline {
@@ -118,10 +107,10 @@ fn joined(first: Outline, second: Outline) -> Outline {
 }
 
 /// Moves an outline to the right, and tells its top box.
-fn move_right(outline: &mut Outline, by: i64, tiles: &mut [Tile]) {
+fn move_right(outline: &mut Outline, by: i64, boxes: &mut [Hanging]) {
     outline.shift = outline.shift.saturating_add(by);
-    if let Some(tile) = tiles.get_mut(outline.tile) {
-        tile.middle = by;
+    if let Some(hanging) = boxes.get_mut(outline.top) {
+        hanging.middle = by;
     }
 }
 
@@ -130,7 +119,7 @@ fn outline_below(
     count: usize,
     gap: i64,
     waiting: &mut Vec<Outline>,
-    tiles: &mut [Tile],
+    boxes: &mut [Hanging],
 ) -> Option<(Outline, i64)> {
     let mut all = waiting.pop()?;
     let mut moved = 0i64;
@@ -139,7 +128,7 @@ fn outline_below(
             break;
         };
         moved = distance(&all, &next, gap);
-        move_right(&mut next, moved, tiles);
+        move_right(&mut next, moved, boxes);
         all = joined(all, next);
     }
     Some((all, moved))
@@ -149,7 +138,7 @@ fn outline_below(
 fn outline_of(
     alloc: Global,
     i: usize,
-    tile: &mut Tile,
+    hanging: &mut Hanging,
     below: Option<(Outline, i64)>,
 ) -> Result<Outline, AllocError> {
     let (mut outline, moved) = match below {
@@ -158,16 +147,16 @@ fn outline_of(
             Outline {
                 rows: Vec::new(alloc),
                 shift: 0,
-                tile: i,
+                top: i,
             },
             0,
         ),
     };
     let middle = moved / 2;
-    tile.shift = middle.saturating_neg();
+    hanging.shift = middle.saturating_neg();
     outline.shift = outline.shift.saturating_sub(middle);
-    outline.tile = i;
-    let half = i64::try_from(tile.width / 2).unwrap_or(i64::MAX);
+    outline.top = i;
+    let half = i64::try_from(hanging.width / 2).unwrap_or(i64::MAX);
     let left = half.saturating_neg().saturating_sub(outline.shift);
     let right = half.saturating_sub(outline.shift);
     outline.rows.push(Ends { left, right })?;
@@ -175,110 +164,107 @@ fn outline_of(
 }
 
 /// Tells each box how far it is from what is above it.
-fn set_distances(alloc: Global, tiles: &mut [Tile]) -> Result<(), AllocError> {
+fn set_distances(alloc: Global, boxes: &mut [Hanging]) -> Result<(), AllocError> {
     let mut waiting: Vec<Outline> = Vec::new(alloc);
-    for i in (0..tiles.len()).rev() {
-        let count = match tiles.get(i) {
-            Some(tile) => tile.below,
+    for i in (0..boxes.len()).rev() {
+        let count = match boxes.get(i) {
+            Some(hanging) => hanging.below,
             None => 0,
         };
         let below = if count > 0 {
-            outline_below(count, GAP, &mut waiting, tiles)
+            outline_below(count, GAP, &mut waiting, boxes)
         } else {
             None
         };
-        if let Some(tile) = tiles.get_mut(i) {
-            waiting.push(outline_of(alloc, i, tile, below)?)?;
+        if let Some(hanging) = boxes.get_mut(i) {
+            waiting.push(outline_of(alloc, i, hanging, below)?)?;
         }
     }
     let trees = waiting.len();
-    let _all = outline_below(trees, BETWEEN, &mut waiting, tiles);
+    let _all = outline_below(trees, BETWEEN, &mut waiting, boxes);
     Ok(())
 }
 
 /// Where a box's middle is, by that of what is above it.
-fn middle_of(tile: &Tile, tiles: &[Tile]) -> i64 {
-    let Some(above) = tile.above else {
-        return tile.middle;
+fn middle_of(hanging: &Hanging, boxes: &[Hanging]) -> i64 {
+    let Some(above) = hanging.above else {
+        return hanging.middle;
     };
-    match tiles.get(above) {
+    match boxes.get(above) {
         Some(above) => above
             .middle
             .saturating_add(above.shift)
-            .saturating_add(tile.middle),
-        None => tile.middle,
+            .saturating_add(hanging.middle),
+        None => hanging.middle,
     }
 }
 
 /// Where a box begins.
-fn left_of(tile: &Tile) -> i64 {
-    let half = i64::try_from(tile.width / 2).unwrap_or(i64::MAX);
-    tile.middle.saturating_sub(half)
+fn left_of(hanging: &Hanging) -> i64 {
+    let half = i64::try_from(hanging.width / 2).unwrap_or(i64::MAX);
+    hanging.middle.saturating_sub(half)
 }
 
-/// How wide a box of this text is.
-fn width_of(label: &str) -> usize {
-    let count = label.chars().count();
-    count.saturating_mul(CHARACTER).saturating_add(PADDING)
-}
-
-/// Counts a box below another one, and gives the row under it.
-fn row_under(above: Option<usize>, tiles: &mut [Tile]) -> usize {
+/// Counts a box below another one.
+fn count_below(above: Option<usize>, boxes: &mut [Hanging]) {
     let Some(above) = above else {
-        return 0;
+        return;
     };
-    let Some(tile) = tiles.get_mut(above) else {
-        return 0;
-    };
-    tile.below = tile.below.saturating_add(1);
-    tile.row.saturating_add(1)
+    if let Some(hanging) = boxes.get_mut(above) {
+        hanging.below = hanging.below.saturating_add(1);
+    }
 }
 
-/// The boxes in their rows, each where its neighbours are not yet known.
-fn in_rows(alloc: Global, boxes: &Boxes) -> Result<Vec<Tile>, AllocError>
-    ensures { IfOk result (λ tiles. length tiles.items ≡ length boxes.now.labels.items) }
-{
-    let mut tiles = Vec::new(alloc);
-    for (i, label) in boxes.labels.iter().enumerate() {
-        let above = boxes.aboves.get(i).copied().flatten();
-        let row = row_under(above, &mut tiles);
-        tiles.push(Tile {
-            width: width_of(label.as_str()),
+/// Boxes of these widths, below these, where their neighbours are not yet known.
+fn hung(
+    alloc: Global,
+    widths: &[usize],
+    aboves: &[Option<usize>],
+) -> Result<Vec<Hanging>, AllocError> {
+    let mut boxes = Vec::new(alloc);
+    for (i, width) in widths.iter().enumerate() {
+        let above = aboves.get(i).copied().flatten();
+        count_below(above, &mut boxes);
+        boxes.push(Hanging {
+            width: *width,
             above,
-            row,
             below: 0,
             middle: 0,
-            left: 0,
             shift: 0,
         })?;
     }
-    Ok(tiles)
+    Ok(boxes)
 }
 
-/// Gives each box its place, from a margin on.
-fn set_places(alloc: Global, tiles: &mut [Tile]) -> Result<(), AllocError> {
-    set_distances(alloc, tiles)?;
+/// Sets where each middle is, and tells where the first box begins, if that is left of 0.
+fn set_middles(boxes: &mut [Hanging]) -> i64 {
     let mut least = 0i64;
-    for i in 0..tiles.len() {
-        let Some(tile) = tiles.get(i) else { break };
-        let middle = middle_of(tile, tiles);
-        if let Some(tile) = tiles.get_mut(i) {
-            tile.middle = middle;
-            least = least.min(left_of(tile));
+    for i in 0..boxes.len() {
+        let Some(hanging) = boxes.get(i) else { break };
+        let middle = middle_of(hanging, boxes);
+        if let Some(hanging) = boxes.get_mut(i) {
+            hanging.middle = middle;
+            least = least.min(left_of(hanging));
         }
     }
-    for tile in tiles.iter_mut() {
-        tile.middle = tile.middle.saturating_sub(least).saturating_add(MARGIN);
-        tile.left = left_of(tile);
-    }
-    Ok(())
+    least
 }
 
-/// The place of each box.
-pub(crate) fn placed(alloc: Global, boxes: &Boxes) -> Result<Vec<Tile>, AllocError>
-    ensures { IfOk result (λ tiles. length tiles.items ≡ length boxes.now.labels.items) }
-{
-    let mut tiles = in_rows(alloc, boxes)?;
-    set_places(alloc, &mut tiles)?;
-    Ok(tiles)
+/// Where boxes of these widths, below these, are to begin, from a margin on.
+pub(crate) fn lefts_of(
+    alloc: Global,
+    widths: &[usize],
+    aboves: &[Option<usize>],
+) -> Result<Vec<u64>, AllocError> {
+    let mut boxes = hung(alloc, widths, aboves)?;
+    set_distances(alloc, &mut boxes)?;
+    let least = set_middles(&mut boxes);
+    let mut lefts = Vec::new(alloc);
+    for hanging in &boxes {
+        let left = left_of(hanging)
+            .saturating_sub(least)
+            .saturating_add(MARGIN);
+        lefts.push(u64::try_from(left).unwrap_or(0))?;
+    }
+    Ok(lefts)
 }

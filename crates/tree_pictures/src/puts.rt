@@ -1,6 +1,5 @@
 // Pieces that are appended to a text.
 ghost use Rattle.std.specs.Prelude.{◌≡◌, ◌++◌, OnOk, string_bytes, decimal, encode_utf8};
-ghost use Rattle.std.specs.Fmt.{signed_decimal};
 
 use std::alloc::AllocError;
 use std::fmt::Write;
@@ -28,13 +27,6 @@ pub(crate) fn put_number(n: u64, out: &mut String) -> Result<(), AllocError>
 
 pub(crate) fn put_long(n: u128, out: &mut String) -> Result<(), AllocError>
     ensures { OnOk result (string_bytes out.new ≡ string_bytes out.old ++ decimal n) }
-{
-    write!(out, "{n}")?;
-    Ok(())
-}
-
-pub(crate) fn put_signed(n: i64, out: &mut String) -> Result<(), AllocError>
-    ensures { OnOk result (string_bytes out.new ≡ string_bytes out.old ++ signed_decimal n) }
 {
     write!(out, "{n}")?;
     Ok(())

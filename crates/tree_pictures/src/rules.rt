@@ -161,7 +161,7 @@ fn count_below(nodes: &[Node<'_>], depth: usize) -> usize
     count
 }
 
-/// The nodes below a rule's in front of its adverbs, of those behind it.
+/// The nodes below a rule's in front of its adverbs, of those after it.
 fn parts_of<'n, 'p: 'n>(nodes: &'n [Node<'p>], depth: usize) -> &'n [Node<'p>]
     ensures { result.now ≡ rules.parts_of depth nodes.now }
 {
@@ -169,7 +169,7 @@ fn parts_of<'n, 'p: 'n>(nodes: &'n [Node<'p>], depth: usize) -> &'n [Node<'p>]
     &nodes[..count]
 }
 
-/// The nodes below one of this depth, of those behind it.
+/// The nodes below one of this depth, of those after it.
 fn below_of<'n, 'p: 'n>(nodes: &'n [Node<'p>], depth: usize) -> &'n [Node<'p>]
     ensures { result.now ≡ rules.below_of depth nodes.now }
 {
@@ -251,7 +251,7 @@ fn push_sequence(nodes: &[Node<'_>], depth: usize, out: &mut String) -> Result<(
     Ok(())
 }
 
-/// Appends the right side of a rule, by its depth and the nodes behind its own.
+/// Appends the right side of a rule, by its depth and the nodes after its own.
 fn push_right(
     form: Form,
     depth: usize,
@@ -318,7 +318,7 @@ fn left_from<'p>(left: &'p str, node: &Node<'p>, nodes: &[Node<'p>], form: Optio
     }
 }
 
-/// Whether nodes are a grammar's tree, by `slif.slif`.
+/// Whether the first node is of a rule of `grammar`, as in trees of `slif.slif`.
 fn is_grammar(nodes: &[Node<'_>]) -> bool
     ensures { result ≡ rules.is_grammar nodes.now }
 {
@@ -365,7 +365,7 @@ fn rules_of(alloc: Global, nodes: &[Node<'_>]) -> Result<String, AllocError>
 }
 
 /// Appends a line for each structural rule of the grammar that this is the tree of: its number, and the rule as `41 event ::= note marks`.
-/// Answers whether the nodes are a grammar's tree; where they are not, nothing is appended.
+/// Answers whether the first node is of a rule of `grammar`, as in trees of `slif.slif`; where it is not, nothing is appended.
 pub fn push_rules(alloc: Global, nodes: &[Node<'_>], out: &mut String) -> Result<bool, AllocError>
     ensures written { OnOk result (string_bytes out.new ≡ string_bytes out.old ++ rules_text
         nodes.now) }

@@ -1,13 +1,13 @@
 // A tree as a picture.
-ghost use Rattle.std.specs.Prelude.{◌≡◌, ◌+◌, ◌++◌, IfOk, OnOk, string_bytes, option_map, slice_get, length, map, decimal};
-ghost use Rattle.std.specs.Fmt.{signed_decimal};
+ghost use Rattle.std.specs.Prelude.{◌≡◌, ◌+◌, ◌++◌, ◌≤◌, ◌<◌, ◌^◌, max, All, IfOk, OnOk, string_bytes, option_map, slice_get, length, map, decimal};
 ghost use Rattle.tree_pictures.specs.Pictures as pictures;
-ghost use Rattle.tree_pictures.specs.Pictures.{escaped, escaped_text, line_begin, line_end, frame_begin, frame_end, text_begin, text_line, picture_head, IsPicture};
+ghost use Rattle.tree_pictures.specs.Pictures.{escaped, escaped_text, line_begin, line_end, frame_begin, frame_end, text_begin, text_line, picture_head, bottom, IsLeast, IsPicture};
+ghost use Rattle.tree_pictures.specs.Places.{right};
 ghost use Rattle.tree_pictures.specs.Boxes.{IsDrawing, AddsDrawing};
 
 use crate::boxes::boxes_of;
-use crate::outlines::{Tile, placed};
-use crate::puts::{put, put_char, put_long, put_number, put_signed};
+use crate::places::{Tile, placed};
+use crate::puts::{put, put_char, put_long};
 use std::alloc::{AllocError, Global};
 use tree_text::Node;
 
@@ -32,10 +32,10 @@ fn put_top(tile: &Tile, out: &mut String) -> Result<(), AllocError>
 }
 
 fn put_middle(tile: &Tile, out: &mut String) -> Result<(), AllocError>
-    ensures { OnOk result (string_bytes out.new ≡ string_bytes out.old ++ signed_decimal
+    ensures { OnOk result (string_bytes out.new ≡ string_bytes out.old ++ decimal
         tile.now.middle) }
 {
-    put_signed(tile.middle, out)
+    put_long(tile.middle, out)
 }
 
 /// Appends a character of a text.
@@ -130,7 +130,7 @@ fn push_frame_begin(tile: &Tile, out: &mut String) -> Result<(), AllocError>
     ensures { OnOk result (string_bytes out.new ≡ string_bytes out.old ++ frame_begin tile.now) }
 {
     put("<rect x=\"", out)?;
-    put_signed(tile.left, out)?;
+    put_long(tile.left, out)?;
     put("\" y=\"", out)?;
     put_long(row_top(tile), out)
 }
@@ -139,7 +139,7 @@ fn push_frame_end(tile: &Tile, out: &mut String) -> Result<(), AllocError>
     ensures { OnOk result (string_bytes out.new ≡ string_bytes out.old ++ frame_end tile.now) }
 {
     put("\" width=\"", out)?;
-    put_number(tile.width as u64, out)?;
+    put_long(tile.width as u128, out)?;
     put(
         "\" height=\"26\" rx=\"4\" fill=\"#fff\" stroke=\"#888\"/>\n",
         out,
@@ -197,31 +197,45 @@ fn push_boxes(tiles: &[Tile], labels: &[String], out: &mut String) -> Result<(),
 /// How wide and how high a picture is.
 #[derive(Clone, Copy)]
 struct Size {
-    width: i64,
+    width: u128,
     height: u128,
 }
 
-fn size_of(tiles: &[Tile]) -> Size {
+/// What is wide and high enough for this box and a margin as well.
+fn around(size: Size, tile: &Tile) -> Size
+    requires { right tile.now + 10 < 2 ^ 128 }
+    ensures width { result.width ≡ max size.width (right tile.now + 10) }
+    ensures height { result.height ≡ max size.height (bottom tile.now + 10) }
+{
+    let right = tile.left + tile.width as u128 + MARGIN;
+    let bottom = row_top(tile) + BOX + MARGIN;
+    Size {
+        width: size.width.max(right),
+        height: size.height.max(bottom),
+    }
+}
+
+/// What is wide and high enough for each box and a margin.
+fn size_of(tiles: &[Tile]) -> Size
+    requires { All (λ tile. right tile + 10 < 2 ^ 128) tiles.now }
+    ensures width { IsLeast (λ tile. right tile + 10) tiles.now result.width }
+    ensures height { IsLeast (λ tile. bottom tile + 10) tiles.now result.height }
+{
     let mut size = Size {
         width: 0,
         height: 0,
     };
     for tile in tiles {
-        let right = tile
-            .left
-            .saturating_add(i64::try_from(tile.width).unwrap_or(i64::MAX))
-            .saturating_add(10);
-        size.width = size.width.max(right);
-        size.height = size.height.max(row_top(tile) + BOX + MARGIN);
+        size = around(size, tile);
     }
     size
 }
 
 fn put_width(size: &Size, out: &mut String) -> Result<(), AllocError>
-    ensures { OnOk result (string_bytes out.new ≡ string_bytes out.old ++ signed_decimal
+    ensures { OnOk result (string_bytes out.new ≡ string_bytes out.old ++ decimal
         size.now.width) }
 {
-    put_signed(size.width, out)
+    put_long(size.width, out)
 }
 
 fn push_head(size: &Size, out: &mut String) -> Result<(), AllocError>
@@ -245,7 +259,8 @@ fn draw(
     labels: &[String],
     aboves: &[Option<usize>],
 ) -> Result<String, AllocError>
-    requires { length tiles.now ≡ length aboves.now }
+    requires each { length tiles.now ≡ length aboves.now }
+    requires near { All (λ tile. right tile + 10 < 2 ^ 128) tiles.now }
     ensures { IfOk result (λ text. IsPicture tiles.now (map string_bytes labels.now) aboves.now
         (string_bytes text)) }
 {

@@ -10,7 +10,7 @@ use Rattle.std.proofs.lemmas.List.Folds.{concat-append}
 use Rattle.outside_model.specs.Told.{AppendsPrefix}
 use Rattle.slif_base.proofs.Bytes.{appends_none, appends_twice}
 use Rattle.grammar_model.specs.Trees.{Tree}
-use Rattle.grammar_model.specs.Steps.{steps_of}
+use Rattle.grammar_model.specs.Steps.{Step, steps_of}
 use Rattle.grammar_model.specs.Grammar.{slot_of}
 use Rattle.grammar_model.specs.Derives.{Held}
 use Rattle.grammar_model.proofs.ChosenOnce.{chosen_unique}
@@ -27,7 +27,7 @@ use Rattle.recognizer_model.specs.Links.{choices}
 use Rattle.run_model.specs.Listing.{line_of, first_of, beyond, tokens_in}
 use Rattle.tree_iter.specs.Iteration.{Iteration, AreGiven, IsAnswer, AreFew}
 use Rattle.value_lines.specs.Lines.{IsLineOf}
-use Rattle.value_lines.specs.Writing.{IsWholeLine, IsWithin, StandsAt, AreEnough, AreRest, HaveCome, RestHas, WroteLines}
+use Rattle.value_lines.specs.Writing.{IsAllAsked, IsWholeLine, IsWithin, StandsAt, AreEnough, AreRest, HaveCome, RestHas, WroteLines}
 
 -- a forest's list is one
 pub one_list : (f : Forest) (xs ys : List Tree) → IsListing f xs → IsListing f ys → xs ≡ ys
@@ -170,6 +170,12 @@ module _ (b : Built) (show : Show) (cs : List ℕ) (pieces : List Piece) (prior 
               appends = appends_twice old new later (text w.given) part.bytes w.wrote.appends part.appends;
             },
           )
+
+-- one line is all the text
+pub only_text : (b : Built) (show : Show) (cs : List ℕ) (pieces : List Piece) (f : Forest) (first : Option ℕ) (list : List Step) (asked : IsAllAsked f first list) →
+    concat (map (line_of b show cs pieces) (first_of first (asked.tree ∷ asked.others))) ≡ line_of b show cs pieces asked.tree
+only_text b show cs pieces f first list asked =
+    ap (λ ts. concat (map (line_of b show cs pieces) ts)) asked.alone ∙ append-nil (line_of b show cs pieces asked.tree)
 
 -- ---- from the first on
 

@@ -5,7 +5,7 @@ use Rattle.std.specs.Io.KnownBytes.{Appends}
 use Rattle.outside_model.specs.Causes.{Rose}
 use Rattle.outside_model.specs.Told.{AppendsPrefix}
 use Rattle.grammar_model.specs.Trees.{Tree}
-use Rattle.grammar_model.specs.Steps.{Step}
+use Rattle.grammar_model.specs.Steps.{Step, steps_of}
 use Rattle.grammar_model.specs.Values.{Value}
 use Rattle.grammar_model.specs.declared.Show.{Show}
 use Rattle.grammar_model.specs.declared.Show.TheVariants.{Array as ShowArray, Tree as ShowTree}
@@ -30,6 +30,14 @@ AreBothTellers tellers = (tellers ≡ (ShowArray, []) ∷ (ShowTree, []) ∷ [])
 abbrev pub TextHas : (b : Built) (show : Show) (cs : List ℕ) (spans : List Span) (f : Forest) (first : Option ℕ) → (List ℕ → Type 0) → Type 0
 TextHas b show cs spans f first P =
     (pieces : List Piece) → IsForestOf b cs spans f pieces → (trees : List Tree) × IsListing f trees × P (concat (map (line_of b show cs pieces) (first_of first trees)))
+
+-- so many of the first derivations of a forest are one, and it has these steps
+pub record IsAllAsked (f : Forest) (first : Option ℕ) (steps : List Step) : Type 0 where
+  pub tree : Tree
+  pub others : List Tree
+  pub listing : IsListing f (tree ∷ others)
+  pub alone : first_of first (tree ∷ others) ≡ tree ∷ []
+  pub steps_are : steps ≡ steps_of tree
 
 -- a text and the line feed after it
 pub record IsWholeLine (piece : List ℕ) : Type 0 where

@@ -42,8 +42,8 @@ fn finish_first(tellers: &mut Vec<Box<dyn Teller>>, line: &mut Vec<u8>) -> Resul
     finish(&mut tellers[0], line)
 }
 
-// Appends the line of the derivation that has these steps.
-fn append_line(
+/// Appends the line of the derivation that has these steps.
+pub fn append_line(
     player: &mut Player<'_>,
     list: &[TreeStep],
     tellers: &mut Vec<Box<dyn Teller>>,

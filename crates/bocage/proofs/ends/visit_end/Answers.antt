@@ -2,10 +2,10 @@ use Rattle.std.proofs.Common.{◌≡◌, ◌∙◌, ◌<◌, ◌↔◌, ◌==◌
 use Rattle.std.proofs.lemmas.Bool.{eqb-true}
 use Rattle.std.proofs.lemmas.Result.{on_ok_weaker, IfOk-from_err}
 use Rattle.recognizer_model.specs.declared.Item.{Item}
-use Rattle.forest_parts.specs.Needed.{IsBelowAsked}
+use Rattle.forest_parts.specs.Needed.{IsAskedAnew}
 use Rattle.bocage.specs.declared.chains.Chains.{Chains}
 use Rattle.bocage.specs.Chains.{EndsAt, AreChained}
-use Rattle.bocage.specs.Expanded.{IsGivenAt}
+use Rattle.bocage.specs.Given.{IsAfterAt}
 use Rattle.bocage.specs.Needed.{AreNeeded}
 use Rattle.bocage.specs.Walk.{IsUsedIn}
 use Rattle.bocage.proofs.Chained.{chained_more}
@@ -55,45 +55,51 @@ positive b (suc n) e f = omega arith
 
 pub returns-in_err-hidden-clause-counted : goal.returns-in_err-hidden-clause-counted
 returns-in_err-hidden-clause-counted g c =
-    rises_of (IsBelowAsked c.args.w.now c.args.ranking c.args.recce.now c.args.found.now.keys.keys c.args.end c.least_origin-least.result) (IsGivenAt c.args.w.now c.args.ranking c.args.recce.now c.args.end) c.args.steps.now c.list_needed.new.steps
-    (λ item h. (
-      given_expanded c.args.w.now c.args.ranking c.args.recce.now c.requires.read c.args.end c.args.first c.args.found.now (map (λ r. r.now) c.args.table.now.items) c.requires.going c.deref.result.now
-          (λ n. subst (λ (l : List ℕ). Contains l n ↔ ((n < c.args.first) × EndsAt c.args.found.now.keys.keys c.args.end n)) (sym c.deref.ensures.value) (c.in_ok-list_nodes.ensures.listed n))
-          c.if-whole.lowest c.least_origin-least.result c.least_origin-least.ensures.bound c.least_origin-least.ensures.met
-          (λ n. (
-            elim c.if-whole.branch [ then-whole w ↦ absurd (n (w.if-whole.true ∙ c.place.ensures.place)) | else-whole w ↦ w.lowest-is ],
-            elim c.else-is_empty.branch [
-              | else-is_empty-via-then-is_empty+else-not-whole w ↦ absurd (n (w.if-not-whole.false ∙ c.place.ensures.place))
-              | else-is_empty-via-else-is_empty w ↦ subst (λ (l : List ℕ). 0 < length l) (c.as_slice.ensures.value ∙ sym c.deref.ensures.value) (positive c.is_empty.result (length c.as_slice.result.now) c.is_empty.ensures w.if-is_empty.false)
-            ],
-          ))
-          item (below_hidden c.args.w.now c.args.ranking c.args.recce.now c.requires.read.is c.args.found.now.keys.keys c.args.end c.least_origin-least.result item h),
+    rises_of (IsAskedAnew c.args.w.now c.args.ranking c.args.recce.now c.args.found.now.keys.keys c.args.given.now c.args.end c.least_origin-least.result) (IsAfterAt c.args.w.now c.args.ranking c.args.recce.now c.args.given.now c.args.end) c.args.steps.now c.list_needed_after.new.steps
+    (λ item (h, fresh). (
       (
-        asked_node c.args.w.now c.args.recce.now c.requires.read c.args.end c.requires.end c.args.ranking c.args.found.now.keys.keys c.requires.going.used c.least_origin-least.result item h,
-        below_allowed c.args.w.now c.args.recce.now c.requires.read c.args.end c.requires.end c.args.ranking c.args.found.now.keys.keys c.requires.going.used c.least_origin-least.result item h,
+        given_expanded c.args.w.now c.args.ranking c.args.recce.now c.requires.read c.args.end c.args.first c.args.found.now (map (λ r. r.now) c.args.table.now.items) c.requires.going c.deref.result.now
+            (λ n. subst (λ (l : List ℕ). Contains l n ↔ ((n < c.args.first) × EndsAt c.args.found.now.keys.keys c.args.end n)) (sym c.deref.ensures.value) (c.in_ok-list_nodes.ensures.listed n))
+            c.if-whole.lowest c.least_origin-least.result c.least_origin-least.ensures.bound c.least_origin-least.ensures.met
+            (λ n. (
+              elim c.if-whole.branch [ then-whole w ↦ absurd (n (w.if-whole.true ∙ c.place.ensures.place)) | else-whole w ↦ w.lowest-is ],
+              elim c.else-is_empty.branch [
+                | else-is_empty-via-then-is_empty+else-not-whole w ↦ absurd (n (w.if-not-whole.false ∙ c.place.ensures.place))
+                | else-is_empty-via-else-is_empty w ↦ subst (λ (l : List ℕ). 0 < length l) (c.as_slice.ensures.value ∙ sym c.deref.ensures.value) (positive c.is_empty.result (length c.as_slice.result.now) c.is_empty.ensures w.if-is_empty.false)
+              ],
+            ))
+            item (below_hidden c.args.w.now c.args.ranking c.args.recce.now c.requires.read.is c.args.found.now.keys.keys c.args.end c.least_origin-least.result item h),
+        (
+          asked_node c.args.w.now c.args.recce.now c.requires.read c.args.end c.requires.end c.args.ranking c.args.found.now.keys.keys c.requires.going.used c.least_origin-least.result item h,
+          below_allowed c.args.w.now c.args.recce.now c.requires.read c.args.end c.requires.end c.args.ranking c.args.found.now.keys.keys c.requires.going.used c.least_origin-least.result item h,
+        ),
       ),
+      fresh,
     ))
     c.in_err-hidden.ensures.counted
 
 pub returns-clause-counted : goal.returns-clause-counted
 returns-clause-counted g c =
-    rises_of (IsBelowAsked c.args.w.now c.args.ranking c.args.recce.now c.args.found.now.keys.keys c.args.end c.least_origin-least.result) (IsGivenAt c.args.w.now c.args.ranking c.args.recce.now c.args.end) c.args.steps.now c.list_needed.new.steps
-    (λ item h. (
-      given_expanded c.args.w.now c.args.ranking c.args.recce.now c.requires.read c.args.end c.args.first c.args.found.now (map (λ r. r.now) c.args.table.now.items) c.requires.going c.deref.result.now
-          (λ n. subst (λ (l : List ℕ). Contains l n ↔ ((n < c.args.first) × EndsAt c.args.found.now.keys.keys c.args.end n)) (sym c.deref.ensures.value) (c.in_ok-list_nodes.ensures.listed n))
-          c.if-whole.lowest c.least_origin-least.result c.least_origin-least.ensures.bound c.least_origin-least.ensures.met
-          (λ n. (
-            elim c.if-whole.branch [ then-whole w ↦ absurd (n (w.if-whole.true ∙ c.place.ensures.place)) | else-whole w ↦ w.lowest-is ],
-            elim c.else-is_empty.branch [
-              | else-is_empty-via-then-is_empty+else-not-whole w ↦ absurd (n (w.if-not-whole.false ∙ c.place.ensures.place))
-              | else-is_empty-via-else-is_empty w ↦ subst (λ (l : List ℕ). 0 < length l) (c.as_slice.ensures.value ∙ sym c.deref.ensures.value) (positive c.is_empty.result (length c.as_slice.result.now) c.is_empty.ensures w.if-is_empty.false)
-            ],
-          ))
-          item (below_hidden c.args.w.now c.args.ranking c.args.recce.now c.requires.read.is c.args.found.now.keys.keys c.args.end c.least_origin-least.result item h),
+    rises_of (IsAskedAnew c.args.w.now c.args.ranking c.args.recce.now c.args.found.now.keys.keys c.args.given.now c.args.end c.least_origin-least.result) (IsAfterAt c.args.w.now c.args.ranking c.args.recce.now c.args.given.now c.args.end) c.args.steps.now c.list_needed_after.new.steps
+    (λ item (h, fresh). (
       (
-        asked_node c.args.w.now c.args.recce.now c.requires.read c.args.end c.requires.end c.args.ranking c.args.found.now.keys.keys c.requires.going.used c.least_origin-least.result item h,
-        below_allowed c.args.w.now c.args.recce.now c.requires.read c.args.end c.requires.end c.args.ranking c.args.found.now.keys.keys c.requires.going.used c.least_origin-least.result item h,
+        given_expanded c.args.w.now c.args.ranking c.args.recce.now c.requires.read c.args.end c.args.first c.args.found.now (map (λ r. r.now) c.args.table.now.items) c.requires.going c.deref.result.now
+            (λ n. subst (λ (l : List ℕ). Contains l n ↔ ((n < c.args.first) × EndsAt c.args.found.now.keys.keys c.args.end n)) (sym c.deref.ensures.value) (c.in_ok-list_nodes.ensures.listed n))
+            c.if-whole.lowest c.least_origin-least.result c.least_origin-least.ensures.bound c.least_origin-least.ensures.met
+            (λ n. (
+              elim c.if-whole.branch [ then-whole w ↦ absurd (n (w.if-whole.true ∙ c.place.ensures.place)) | else-whole w ↦ w.lowest-is ],
+              elim c.else-is_empty.branch [
+                | else-is_empty-via-then-is_empty+else-not-whole w ↦ absurd (n (w.if-not-whole.false ∙ c.place.ensures.place))
+                | else-is_empty-via-else-is_empty w ↦ subst (λ (l : List ℕ). 0 < length l) (c.as_slice.ensures.value ∙ sym c.deref.ensures.value) (positive c.is_empty.result (length c.as_slice.result.now) c.is_empty.ensures w.if-is_empty.false)
+              ],
+            ))
+            item (below_hidden c.args.w.now c.args.ranking c.args.recce.now c.requires.read.is c.args.found.now.keys.keys c.args.end c.least_origin-least.result item h),
+        (
+          asked_node c.args.w.now c.args.recce.now c.requires.read c.args.end c.requires.end c.args.ranking c.args.found.now.keys.keys c.requires.going.used c.least_origin-least.result item h,
+          below_allowed c.args.w.now c.args.recce.now c.requires.read c.args.end c.requires.end c.args.ranking c.args.found.now.keys.keys c.requires.going.used c.least_origin-least.result item h,
+        ),
       ),
+      fresh,
     ))
     c.in_ok-hidden.ensures.counted
 
@@ -127,11 +133,11 @@ returns-then-not-whole-clause-chained g c = c.in_ok-list_nodes.ensures.chained
 pub returns-then-not-whole-clause-grows : goal.returns-then-not-whole-clause-grows
 returns-then-not-whole-clause-grows g c = grows_none (IsUsedIn c.args.w.now c.args.ranking c.args.recce.now) c.args.found.now.keys.keys
 
-pub list_needed-requires-clause-is : goal.list_needed-requires-clause-is
-list_needed-requires-clause-is g c = c.requires.read.is
+pub list_needed_after-requires-clause-is : goal.list_needed_after-requires-clause-is
+list_needed_after-requires-clause-is g c = c.requires.read.is
 
-pub list_needed-requires-clause-flat : goal.list_needed-requires-clause-flat
-list_needed-requires-clause-flat g c = c.requires.read.flat_of
+pub list_needed_after-requires-clause-flat : goal.list_needed_after-requires-clause-flat
+list_needed_after-requires-clause-flat g c = c.requires.read.flat_of
 
 pub visit_from-requires-clause-hidden : goal.visit_from-requires-clause-hidden
 visit_from-requires-clause-hidden g c =
@@ -143,7 +149,10 @@ visit_from-requires-clause-hidden g c =
       | then-whole w ↦ let z = w.lowest-is in omega arith
       | else-whole w ↦ absurd (w.if-whole.false (e ∙ sym c.place.ensures.place))
     ]))
-    c.requires.end c.in_ok-hidden.hidden.items c.in_ok-hidden.ensures.exact)
+    c.requires.end c.in_ok-hidden.hidden.items c.in_ok-hidden.ensures.hidden c.in_ok-hidden.ensures.all)
+
+pub list_needed_after-requires-clause-given : goal.list_needed_after-requires-clause-given
+list_needed_after-requires-clause-given g c e h = (c.requires.given e h).below
 
 pub visit_from-requires-clause-read : goal.visit_from-requires-clause-read
 visit_from-requires-clause-read g c = c.requires.read
@@ -161,7 +170,7 @@ pub returns-clause-grows : goal.returns-clause-grows
 returns-clause-grows g c = c.visit_from.ensures.grows
 
 pub returns-in_err-list_nodes-clause-counted : goal.returns-in_err-list_nodes-clause-counted
-returns-in_err-list_nodes-clause-counted g c = rises_none (IsGivenAt c.args.w.now c.args.ranking c.args.recce.now c.args.end) c.args.steps.now
+returns-in_err-list_nodes-clause-counted g c = rises_none (IsAfterAt c.args.w.now c.args.ranking c.args.recce.now c.args.given.now c.args.end) c.args.steps.now
 
 pub returns-then-not-whole-clause-counted : goal.returns-then-not-whole-clause-counted
-returns-then-not-whole-clause-counted g c = rises_none (IsGivenAt c.args.w.now c.args.ranking c.args.recce.now c.args.end) c.args.steps.now
+returns-then-not-whole-clause-counted g c = rises_none (IsAfterAt c.args.w.now c.args.ranking c.args.recce.now c.args.given.now c.args.end) c.args.steps.now

@@ -3,7 +3,7 @@ use Rattle.recognizer_model.specs.declared.NodeKey.{NodeKey}
 use Rattle.bocage.specs.Walk.{IsUsedIn}
 use Rattle.forest_parts.specs.Hidden.{RisesWithin}
 use Rattle.bocage.specs.Ends.{IsGoing, AreVisited}
-use Rattle.bocage.specs.Expanded.{IsGivenFrom}
+use Rattle.bocage.specs.Given.{IsGivenAfter, IsAfterFrom}
 use Rattle.bocage.proofs.Expanding.{within_first, within_more, within_all}
 use Rattle.bocage.proofs.Growing.{grows_then}
 use Rattle.bocage.proofs.Chained.{none_chained}
@@ -23,7 +23,7 @@ loop-back-init g c =
       visited = subst (λ p. AreVisited c.args.w.now c.args.ranking c.args.recce.now p c.visit_end.new.found (map (λ r. r.now) c.visit_end.new.table.items)) e c.in_ok-visit_end.ensures.visited;
       chained = c.in_ok-visit_end.ensures.chained;
       grows = c.in_ok-visit_end.ensures.grows;
-      counted = subst (λ p. RisesWithin (IsGivenFrom c.args.w.now c.args.ranking c.args.recce.now p) c.args.steps.now c.visit_end.new.steps) e (within_first c.args.w.now c.args.ranking c.args.recce.now c.place-earleme.result c.args.steps.now c.visit_end.new.steps c.in_ok-visit_end.ensures.counted);
+      counted = subst (λ p. RisesWithin (IsAfterFrom c.args.w.now c.args.ranking c.args.recce.now c.args.given.now p) c.args.steps.now c.visit_end.new.steps) e (within_first (IsGivenAfter c.args.w.now c.args.ranking c.args.recce.now c.args.given.now) c.place-earleme.result c.args.steps.now c.visit_end.new.steps c.in_ok-visit_end.ensures.counted);
     }
 
 pub visit_end-requires-in-loop-back-clause-going : goal.visit_end-requires-in-loop-back-clause-going
@@ -44,7 +44,7 @@ loop-back-preserved g c =
       visited = subst (λ p. AreVisited c.args.w.now c.args.ranking c.args.recce.now p c.visit_end-in-loop-back.new.found (map (λ r. r.now) c.visit_end-in-loop-back.new.table.items)) e c.in_ok-visit_end-2.ensures.visited;
       chained = c.in_ok-visit_end-2.ensures.chained;
       grows = grows_then (IsUsedIn c.args.w.now c.args.ranking c.args.recce.now) c.args.found.now.keys.keys c.loop-back.found.keys.keys c.visit_end-in-loop-back.new.found.keys.keys c.loop-back.invariant.grows c.in_ok-visit_end-2.ensures.grows;
-      counted = subst (λ p. RisesWithin (IsGivenFrom c.args.w.now c.args.ranking c.args.recce.now p) c.args.steps.now c.visit_end-in-loop-back.new.steps) e (within_more c.args.w.now c.args.ranking c.args.recce.now end c.args.steps.now c.loop-back.steps c.visit_end-in-loop-back.new.steps (subst (λ p. RisesWithin (IsGivenFrom c.args.w.now c.args.ranking c.args.recce.now p) c.args.steps.now c.loop-back.steps) q c.loop-back.invariant.counted) c.in_ok-visit_end-2.ensures.counted);
+      counted = subst (λ p. RisesWithin (IsAfterFrom c.args.w.now c.args.ranking c.args.recce.now c.args.given.now p) c.args.steps.now c.visit_end-in-loop-back.new.steps) e (within_more (IsGivenAfter c.args.w.now c.args.ranking c.args.recce.now c.args.given.now) end c.args.steps.now c.loop-back.steps c.visit_end-in-loop-back.new.steps (subst (λ p. RisesWithin (IsAfterFrom c.args.w.now c.args.ranking c.args.recce.now c.args.given.now p) c.args.steps.now c.loop-back.steps) q c.loop-back.invariant.counted) c.in_ok-visit_end-2.ensures.counted);
     }
 
 pub returns-clause-visited : goal.returns-clause-visited
@@ -54,20 +54,20 @@ returns-clause-visited g c =
     subst (λ p. AreVisited c.args.w.now c.args.ranking c.args.recce.now p c.loop-back.found (map (λ r. r.now) c.loop-back.table.items)) e c.loop-back.invariant.visited
 
 pub returns-clause-counted : goal.returns-clause-counted
-returns-clause-counted g c = within_all c.args.w.now c.args.ranking c.args.recce.now (c.place-earleme.result - c.loop-back.back) c.args.steps.now c.loop-back.steps c.loop-back.invariant.counted
+returns-clause-counted g c = within_all (IsGivenAfter c.args.w.now c.args.ranking c.args.recce.now c.args.given.now) (c.place-earleme.result - c.loop-back.back) c.args.steps.now c.loop-back.steps c.loop-back.invariant.counted
 
 pub returns-in_err-visit_end-clause-counted : goal.returns-in_err-visit_end-clause-counted
 returns-in_err-visit_end-clause-counted g c =
-    within_all c.args.w.now c.args.ranking c.args.recce.now c.place-earleme.result c.args.steps.now c.visit_end.new.steps
-    (within_first c.args.w.now c.args.ranking c.args.recce.now c.place-earleme.result c.args.steps.now c.visit_end.new.steps c.in_err-visit_end.ensures.counted)
+    within_all (IsGivenAfter c.args.w.now c.args.ranking c.args.recce.now c.args.given.now) c.place-earleme.result c.args.steps.now c.visit_end.new.steps
+    (within_first (IsGivenAfter c.args.w.now c.args.ranking c.args.recce.now c.args.given.now) c.place-earleme.result c.args.steps.now c.visit_end.new.steps c.in_err-visit_end.ensures.counted)
 
 pub returns-in_err-visit_end-2-clause-counted : goal.returns-in_err-visit_end-2-clause-counted
 returns-in_err-visit_end-2-clause-counted g c =
     let t = c.loop-back-test.true in
     let q : c.place-earleme.result - c.loop-back.back ≡ suc (c.place-earleme.result - 1 - c.loop-back.back) = omega arith in
     let end = c.place-earleme.result - 1 - c.loop-back.back in
-    within_all c.args.w.now c.args.ranking c.args.recce.now end c.args.steps.now c.visit_end-in-loop-back.new.steps
-    (within_more c.args.w.now c.args.ranking c.args.recce.now end c.args.steps.now c.loop-back.steps c.visit_end-in-loop-back.new.steps (subst (λ p. RisesWithin (IsGivenFrom c.args.w.now c.args.ranking c.args.recce.now p) c.args.steps.now c.loop-back.steps) q c.loop-back.invariant.counted) c.in_err-visit_end-2.ensures.counted)
+    within_all (IsGivenAfter c.args.w.now c.args.ranking c.args.recce.now c.args.given.now) end c.args.steps.now c.visit_end-in-loop-back.new.steps
+    (within_more (IsGivenAfter c.args.w.now c.args.ranking c.args.recce.now c.args.given.now) end c.args.steps.now c.loop-back.steps c.visit_end-in-loop-back.new.steps (subst (λ p. RisesWithin (IsAfterFrom c.args.w.now c.args.ranking c.args.recce.now c.args.given.now p) c.args.steps.now c.loop-back.steps) q c.loop-back.invariant.counted) c.in_err-visit_end-2.ensures.counted)
 
 pub visit_end-requires-clause-few : goal.visit_end-requires-clause-few
 visit_end-requires-clause-few g c = let e = ap (λ (l : List ℕ). length l) c.requires.below in omega arith

@@ -1,4 +1,4 @@
-use Rattle.std.proofs.Common.{codes, decimal, string_bytes}
+use Rattle.std.proofs.Common.{codes, string_bytes}
 use Rattle.std.proofs.lemmas.Result.{on_ok_weaker}
 use Rattle.tree_pictures.specs.Pictures.{escaped_text, text_begin}
 use Rattle.tree_pictures.proofs.Appended.{four}

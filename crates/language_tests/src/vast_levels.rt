@@ -1,7 +1,6 @@
 //! The check of grammars whose rules name levels and groups by the thousand million.
-use crate::grammars::{add_names, add_rule};
 use grammar_check::{Checked, GrammarRefusal, check};
-use grammar_core::{Assoc, CoreRefusal, SymbolId, Written};
+use grammar_core::{Assoc, CoreRefusal, Rule, RuleId, SymbolId, Written};
 use std::alloc::Global;
 use std::test::Fail;
 
@@ -35,10 +34,29 @@ const LOOP: &[Plain] = &[
     (E, &[N], 2_199_999_999),
 ];
 
+fn add_rule(
+    alloc: Global,
+    w: &mut Written,
+    (lhs, parts, level): Plain,
+) -> Result<RuleId, CoreRefusal> {
+    let rhs = parts.iter().map(|part| SymbolId(*part)).collect(alloc)?;
+    w.rule_new(Rule {
+        lhs: SymbolId(lhs),
+        rhs,
+        level,
+        groups: GROUPS,
+        assoc: Assoc::Left,
+        rank: 0,
+        null_high: false,
+    })
+}
+
 fn add_all(alloc: Global, w: &mut Written, rules: &[Plain]) -> Result<(), CoreRefusal> {
-    add_names(w, &["S", "E", "F", "n"])?;
-    for (lhs, parts, level) in rules {
-        add_rule(alloc, w, (*lhs, *parts), *level, GROUPS, Assoc::Left)?;
+    for name in &["S", "E", "F", "n"] {
+        w.symbol_new(name)?;
+    }
+    for rule in rules {
+        add_rule(alloc, w, *rule)?;
     }
     w.start_add(SymbolId(S))
 }

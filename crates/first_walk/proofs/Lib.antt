@@ -1,0 +1,15 @@
+pub mod Firsts
+pub mod Heads
+pub mod Rules
+pub mod Parts
+pub mod Listing
+pub mod Choosing
+pub mod Numbers
+pub mod Goings
+pub mod Orders
+pub mod Choices
+pub mod Backwards
+pub mod Counts
+pub mod Under
+pub mod Giving
+pub mod Coming
