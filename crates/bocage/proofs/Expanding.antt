@@ -22,7 +22,7 @@ use Rattle.forest_parts.proofs.Sets.{at_top, goes}
 use Rattle.bocage.specs.declared.rows.AlternativeRow.{AlternativeRow}
 use Rattle.bocage.specs.declared.walk.Found.{Found}
 use Rattle.bocage.specs.Walk.{IsRead, IsUsedIn, node_of_item, top_key}
-use Rattle.bocage.specs.Chains.{EndsAt}
+use Rattle.forest_parts.specs.Chains.{EndsAt}
 use Rattle.bocage.specs.Ends.{IsGoing}
 use Rattle.bocage.specs.Expanded.{IsExpandedIn}
 use Rattle.bocage.proofs.Splits.{used_met, used_within}

@@ -8,7 +8,6 @@ pub mod Joining
 pub mod Finishing
 pub mod Moving
 pub mod Visiting
-pub mod Chained
 pub mod Telling
 pub mod Asking
 pub mod Expanding

@@ -31,7 +31,7 @@ use Rattle.bocage.specs.declared.rows.AlternativeRow.{AlternativeRow}
 use Rattle.bocage.specs.declared.walk.Known.{Known}
 use Rattle.bocage.specs.declared.walk.Found.{Found}
 use Rattle.bocage.specs.Walk.{IsRead, IsNext, Knows, node_after}
-use Rattle.bocage.specs.Chains.{EndsAt}
+use Rattle.forest_parts.specs.Chains.{EndsAt}
 use Rattle.bocage.specs.Ends.{IsGoing}
 use Rattle.bocage.specs.Needed.{IsItemUsed, AreNeeded, IsNeeded}
 use Rattle.bocage.proofs.Splits.{waits_in, met_stands, met_within, derives_forward, used_met}

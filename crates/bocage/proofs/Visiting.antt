@@ -11,7 +11,7 @@ use Rattle.bocage.specs.declared.rows.AlternativeRow.{AlternativeRow}
 use Rattle.bocage.specs.declared.walk.Known.{Known}
 use Rattle.bocage.specs.declared.walk.Found.{Found}
 use Rattle.bocage.specs.Walk.{IsRead, Knows, IsUsedIn, IsNew, AreNoted, GrowsBy, ListsKey, top_key}
-use Rattle.bocage.specs.Chains.{EndsAt}
+use Rattle.forest_parts.specs.Chains.{EndsAt, AreChained}
 use Rattle.bocage.specs.Ends.{SetsRow, HasRow, Goes, Visits, IsReady, IsGoing, AreVisited}
 use Rattle.std.proofs.Math.ListN.{set}
 use Rattle.std.proofs.lemmas.List.{map-append, length-map, take_more, nil_from_length, map-set}
@@ -83,6 +83,22 @@ longer P (x ∷ xs) new (more, e, p) = subst (λ l. length (x ∷ xs) ≤ length
     go : (ys : List NodeKey) → length (x ∷ ys) ≤ length ((x ∷ ys) ++ more)
     go [] = omega arith
     go (y ∷ ys) = let l = go ys in omega arith
+
+-- chains of nodes stand where more are met
+pub chained_more : (P : NodeKey → Type 0) (old new : List NodeKey) (heads below : List ℕ) → GrowsBy P old new → AreChained old heads below → AreChained new heads below
+chained_more P old new heads below grows h = record {
+  few = (let l = longer P old new grows in let f = h.few in omega arith);
+  chain = λ end. (
+      let (ns, is, exact) = h.chain end in (
+        ns,
+        is,
+        λ n. (
+          λ i. (let (lt, (key, at, e)) = (exact n).0 i in (lt, (key, still_at P old new grows n key at, e))),
+          λ (lt, (key, at, e)). (let f = h.few in (exact n).1 (lt, (key, was_at P old new grows n key (omega arith) at, e))),
+        ),
+      )
+      );
+}
 
 module _ (k : Known) where
   pub goes_none : (f : Found) (table : List (List AlternativeRow)) → AreNoted k f → Goes k f f table table

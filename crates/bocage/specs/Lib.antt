@@ -5,5 +5,4 @@ pub mod Joins
 pub mod Needed
 pub mod Given
 pub mod Walk
-pub mod Chains
 pub mod Ends

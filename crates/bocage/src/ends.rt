@@ -6,19 +6,19 @@ ghost use Rattle.forest_parts.specs.Hidden.{RisesWithin};
 ghost use Rattle.bocage.specs.Given.{AreGivenFor, IsGivenAfter, IsAfterAt};
 ghost use Rattle.bocage.specs.Needed.{AreNeeded};
 ghost use Rattle.bocage.specs.Walk.{Knows, IsUsedIn, IsRead, GrowsBy, top_key};
-ghost use Rattle.bocage.specs.Chains.{AreChained, EndsAt};
+ghost use Rattle.forest_parts.specs.Chains.{AreChained, EndsAt};
 ghost use Rattle.bocage.specs.Ends.{SetsRow, Visits, Goes, HasRow, IsReady, IsGoing, AreVisited};
 ghost use Rattle.bocage.specs.Walk.{AreGathered, AreNoted};
 ghost use Rattle.bocage.specs.declared.rows.CauseRow.{CauseRow as TheCauseRow};
 
-use crate::chains::{Chains, list_nodes, new_chains};
 use crate::joins::{Join, list_joins};
 use crate::rows::{AlternativeRow, CauseRow};
 use crate::walk::{Found, Known, put_key};
 use bumpalo::Bump;
 use earley_sets::Recce;
 use forest_parts::{
-    Given, Group, NodeKeys, Part, key_at, list_groups, list_needed_after, list_parts,
+    Chains, Given, Group, NodeKeys, Part, key_at, list_groups, list_needed_after, list_nodes,
+    list_parts, new_chains,
 };
 use grammar_core::Written;
 use grammar_model::{Edge, Ranking};

@@ -1,7 +1,6 @@
 //! The shared packed forest of a reading: the chosen derivations of the start, each way to derive a prefix of a rule over a span once.
 #![tactic(auto)]
 
-mod chains;
 mod ends;
 mod forest;
 mod joins;

@@ -3,7 +3,7 @@ use Rattle.std.proofs.lemmas.List.Elements.{Contains-append_left, Contains-push,
 use Rattle.std.proofs.lemmas.Bool.{cases_lt}
 use Rattle.recognizer_model.specs.declared.Item.{Item}
 use Rattle.recognizer_model.specs.Items.{first_item}
-use Rattle.earley_sets.specs.Tried.{RisesBy}
+use Rattle.earley_sets.specs.Tried.{RisesWithin}
 use Rattle.earley_sets.proofs.Rising.{rises_none, rises_one, rises_as, rises_on}
 
 module _ (old : List Item) (first earleme : ℕ) where
@@ -38,7 +38,7 @@ module _ (old : List Item) (first earleme : ℕ) where
 
   -- the rules that were listed
   abbrev pub Counted : List Item → ℕ → Type 0
-  Counted new end = RisesBy (λ (r : ℕ). (first ≤ r) × (r < end)) (length old) (length new)
+  Counted new end = RisesWithin (λ (r : ℕ). (first ≤ r) × (r < end)) (length old) (length new)
 
   pub counted_none : Counted old first
   counted_none = rises_none (λ (r : ℕ). (first ≤ r) × (r < first)) (length old) (length old) refl

@@ -6,7 +6,7 @@ use Rattle.recognizer_model.specs.Items.{after}
 use Rattle.recognizer_model.specs.Links.{Link, Predicts, Skips, Scans, Completes, Leaps}
 use Rattle.item_rows.specs.Kept.{IsAwaited}
 use Rattle.earley_sets.specs.Begun.{AreAwaited, Begins, AreBegun, IsBegun}
-use Rattle.earley_sets.specs.Tried.{RisesBy, MakesOneLater, IsRuleOf, TriesBegun, TriesList}
+use Rattle.earley_sets.specs.Tried.{RisesWithin, MakesOneLater, IsRuleOf, TriesBegun, TriesList}
 use Rattle.earley_sets.proofs.Begins.{begins_item}
 use Rattle.earley_sets.proofs.Rising.{rises_none, rises_over, rises_on, rises_moved, rises_chosen}
 
@@ -41,7 +41,7 @@ module _ (g : FlatGrammar) (earleme : ℕ) (items : List Item) where
     abbrev IsStarted : Link → Type 0
     IsStarted link = (r : ℕ) × IsRuleOf g symbols r × IsStart r link
 
-    starts : {a b : ℕ} → RisesBy (IsRuleOf g symbols) a b → RisesBy IsStarted a b
+    starts : {a b : ℕ} → RisesWithin (IsRuleOf g symbols) a b → RisesWithin IsStarted a b
     starts r = rises_chosen (IsRuleOf g symbols) IsStart start start_apart r
 
     here : (item : Item) → Contains list item → IsBegun g earleme items (record item { origin = earleme })
@@ -65,7 +65,7 @@ module _ (g : FlatGrammar) (earleme : ℕ) (items : List Item) where
     back_moved (Completes whole waiting) (item, c, m) = absurd m
     back_moved (Leaps whole) (item, c, m) = absurd m
 
-    laters : {a b : ℕ} → RisesBy (MakesOneLater g list) a b → RisesBy IsMoved a b
+    laters : {a b : ℕ} → RisesWithin (MakesOneLater g list) a b → RisesWithin IsMoved a b
     laters r = rises_over IsMoved (moved earleme) (λ link m. (link, m, refl)) (λ l k m n e. sym (back_moved l m) ∙ (ap (moved 0) e ∙ back_moved k n)) r
 
     started_makes : (link : Link) → IsStarted link → MakesBegun link
@@ -89,12 +89,12 @@ module _ (g : FlatGrammar) (earleme : ℕ) (items : List Item) where
     never_moved apart w r (Completes whole waiting) there (item, c, m) same = absurd m
     never_moved apart w r (Leaps whole) there (item, c, m) same = absurd m
 
-    pub begun_tried : ((item : Item) → Contains items item → ¬ IsBegun g earleme items item) → (a b : ℕ) → TriesBegun g symbols list a b → RisesBy MakesBegun a b
+    pub begun_tried : ((item : Item) → Contains items item → ¬ IsBegun g earleme items item) → (a b : ℕ) → TriesBegun g symbols list a b → RisesWithin MakesBegun a b
     begun_tried apart a b (mid, firsts, later) =
         rises_on MakesBegun started_makes (λ link (before, m, e). subst MakesBegun (sym e) (moved_makes before m))
         (λ link (r, rule, (w, there, waits, e)) (before, m, e'). never_moved apart w r before there m (sym e ∙ e')) (starts firsts) (laters later)
 
-  pub list_tried : (list : List Item) → AreBegun g (IsAwaited g items) list → ((item : Item) → Contains items item → ¬ IsBegun g earleme items item) → (a b : ℕ) → TriesList g items list a b → RisesBy MakesBegun a b
+  pub list_tried : (list : List Item) → AreBegun g (IsAwaited g items) list → ((item : Item) → Contains items item → ¬ IsBegun g earleme items item) → (a b : ℕ) → TriesList g items list a b → RisesWithin MakesBegun a b
   list_tried list begun apart a b (inl e) = rises_none MakesBegun a b e
   list_tried list begun apart a b (inr (symbols, awaited, tries)) = begun_tried symbols list awaited begun apart a b tries
 

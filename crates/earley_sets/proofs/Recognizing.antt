@@ -44,7 +44,7 @@ use Rattle.leo_items.proofs.Chains.{memo_stays, memo_none, memo_pairs}
 use Rattle.earley_sets.proofs.ByRows.{known, to_leo}
 use Rattle.earley_sets.specs.Scanning.{GoForward, AreReduced}
 use Rattle.earley_sets.specs.Recognizer.{Recognizer, IsKept, earleme_of, edges_of, top_of, made, start_symbol, IsExpected, HasTree}
-use Rattle.earley_sets.specs.Tried.{RisesBy}
+use Rattle.earley_sets.specs.Tried.{RisesWithin}
 
 abbrev pub recognizer : FlatGrammar → ℕ → List HeldEdge → List (List Item) → List Note → Recognizer
 recognizer g start edges rows notes = record { flat = g; start = start; edges = edges; sets = rows; noted = pairs_of notes }
@@ -161,7 +161,7 @@ module _ (g : FlatGrammar) (start : ℕ) (edges : List HeldEdge) (old new : Item
   added_set (row, e, is_row, exact) = (row, e, subst (λ t. IsListOf (InReduced g (FlatEdges g (Held edges)) t (length old.sets)) row) k.top_is exact)
 
   -- what was tried is links of the set of the next place
-  pub tried_links : (more : List Note) (a b : ℕ) → (0 < length old.sets → RisesBy (IsLink g (FlatEdges g (Held edges)) top (length old.sets)) (a + length more) (b + length notes)) →
+  pub tried_links : (more : List Note) (a b : ℕ) → (0 < length old.sets → RisesWithin (IsLink g (FlatEdges g (Held edges)) top (length old.sets)) (a + length more) (b + length notes)) →
       (tried : List Link) × AllPairs (λ x y. x ≢ y) tried ×
       ((l : Link) → Contains tried l → IsLink g (edges_of (recognizer g start edges old.sets notes)) (top_of (recognizer g start edges old.sets notes)) (length old.sets) l) ×
       (b + made (recognizer g start edges old.sets notes) ≡ a + length tried + length (pairs_of more))

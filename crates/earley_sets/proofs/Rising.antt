@@ -5,7 +5,7 @@ use Rattle.std.proofs.lemmas.List.{length-map}
 use Rattle.finite_sets.proofs.Lists.{Contains-none}
 use Rattle.finite_sets.proofs.Members.{Among, Once, among_from, contains_from, among_either, among_map_from, once_pairs, pairs_once, once_most, once_append}
 use Rattle.recognizer_model.specs.Counts.{IsCountOf}
-use Rattle.earley_sets.specs.Tried.{RisesBy}
+use Rattle.earley_sets.specs.Tried.{RisesWithin}
 use Rattle.earley_sets.proofs.Membership.{Contains-cons_cases, Contains-map_from}
 
 -- values that differ do so after a function that keeps them apart
@@ -16,10 +16,10 @@ once_map P f (x ∷ xs) apart are (fresh, once) = (
   once_map P f xs apart (λ y m. are y (inr m)) once,
 )
 
-pub rises_none : {X : Type 0} (P : X → Type 0) (a b : ℕ) → b ≡ a → RisesBy P a b
+pub rises_none : {X : Type 0} (P : X → Type 0) (a b : ℕ) → b ≡ a → RisesWithin P a b
 rises_none P a b e = record { values = []; once = λ i j d lt below. absurd (omega arith); are = λ x c. absurd (Contains-none x c); count = omega arith }
 
-pub rises_one : {X : Type 0} (P : X → Type 0) (x : X) (a b : ℕ) → P x → b ≡ a + 1 → RisesBy P a b
+pub rises_one : {X : Type 0} (P : X → Type 0) (x : X) (a b : ℕ) → P x → b ≡ a + 1 → RisesWithin P a b
 rises_one P x a b p e = record {
   values = x ∷ [];
   once = λ i j d lt below. absurd (omega arith);
@@ -27,7 +27,7 @@ rises_one P x a b p e = record {
   count = omega arith;
 }
 
-pub rises_over : {X Y : Type 0} {P : X → Type 0} {a b : ℕ} (Q : Y → Type 0) (f : X → Y) → ((x : X) → P x → Q (f x)) → ((x y : X) → P x → P y → f x ≡ f y → x ≡ y) → RisesBy P a b → RisesBy Q a b
+pub rises_over : {X Y : Type 0} {P : X → Type 0} {a b : ℕ} (Q : Y → Type 0) (f : X → Y) → ((x : X) → P x → Q (f x)) → ((x y : X) → P x → P y → f x ≡ f y → x ≡ y) → RisesWithin P a b → RisesWithin Q a b
 rises_over {P = P} Q f to apart r = record {
   values = map f r.values;
   once = once_pairs (map f r.values) (once_map P f r.values apart (λ x m. r.are x (contains_from r.values x m)) (pairs_once r.values r.once));
@@ -51,7 +51,7 @@ module _ {X Y : Type 0} (P : X → Type 0) (Q : X → Y → Type 0) (choose : (x
         λ w m. elim m [ inl e ↦ (x, inl refl, subst (Q x) e q) | inr there ↦ let (z, a, q') = from w there in (z, inr a, q') ],
       )
 
-  pub rises_chosen : {a b : ℕ} → RisesBy P a b → RisesBy (λ y. (x : X) × P x × Q x y) a b
+  pub rises_chosen : {a b : ℕ} → RisesWithin P a b → RisesWithin (λ y. (x : X) × P x × Q x y) a b
   rises_chosen r =
       let (ys, once, n, from) = chosen r.values (λ x m. r.are x (contains_from r.values x m)) (pairs_once r.values r.once) in
       record {
@@ -61,10 +61,10 @@ module _ {X Y : Type 0} (P : X → Type 0) (Q : X → Y → Type 0) (choose : (x
         count = let c = r.count in omega (arith, n, c);
       }
 
-pub rises_as : {X : Type 0} {P : X → Type 0} {a b : ℕ} (Q : X → Type 0) → ((x : X) → P x → Q x) → RisesBy P a b → RisesBy Q a b
+pub rises_as : {X : Type 0} {P : X → Type 0} {a b : ℕ} (Q : X → Type 0) → ((x : X) → P x → Q x) → RisesWithin P a b → RisesWithin Q a b
 rises_as Q to r = record { values = r.values; once = r.once; are = λ x c. to x (r.are x c); count = r.count }
 
-pub rises_on : {X : Type 0} {P Q : X → Type 0} {a b c : ℕ} (R : X → Type 0) → ((x : X) → P x → R x) → ((x : X) → Q x → R x) → ((x : X) → P x → Q x → ⊥) → RisesBy P a b → RisesBy Q b c → RisesBy R a c
+pub rises_on : {X : Type 0} {P Q : X → Type 0} {a b c : ℕ} (R : X → Type 0) → ((x : X) → P x → R x) → ((x : X) → Q x → R x) → ((x : X) → P x → Q x → ⊥) → RisesWithin P a b → RisesWithin Q b c → RisesWithin R a c
 rises_on {a = a} {b = b} {c = c} R left right apart r s = record {
   values = r.values ++ s.values;
   once = once_pairs (r.values ++ s.values) (once_append r.values s.values (pairs_once r.values r.once) (pairs_once s.values s.once)
@@ -77,7 +77,7 @@ rises_on {a = a} {b = b} {c = c} R left right apart r s = record {
 }
 
 -- a rise of the same height
-pub rises_moved : {X : Type 0} {P : X → Type 0} {a b : ℕ} (c d : ℕ) → a + d ≡ b + c → RisesBy P a b → RisesBy P c d
+pub rises_moved : {X : Type 0} {P : X → Type 0} {a b : ℕ} (c d : ℕ) → a + d ≡ b + c → RisesWithin P a b → RisesWithin P c d
 rises_moved c d e r = record { values = r.values; once = r.once; are = r.are; count = let k = r.count in omega (arith, k, e) }
 
 -- a number rises by no more than there are values

@@ -14,7 +14,7 @@ use Rattle.item_rows.specs.Rows.{IsBegunAt}
 use Rattle.item_rows.specs.Kept.{IsAwaited, AreRows, IsRowOf}
 use Rattle.earley_sets.specs.Begun.{AreBegun, IsBegun}
 use Rattle.earley_sets.specs.Scanning.{GoForward, AreReduced, IsKernel}
-use Rattle.earley_sets.specs.Tried.{RisesBy, MakesKernel, TriesList}
+use Rattle.earley_sets.specs.Tried.{RisesWithin, MakesKernel, TriesList}
 use Rattle.earley_sets.proofs.Begins.{splits, apart, begun_at_place}
 use Rattle.earley_sets.proofs.ByRows.{goes_forward}
 use Rattle.earley_sets.proofs.Making.{MakesBegun, list_tried}
@@ -69,6 +69,6 @@ module _ (g : FlatGrammar) (edges : List HeldEdge) (top : ℕ) (is_top : IsTop g
   links_apart (Leaps done) k m = absurd m
 
   -- the kernel's links, and then those of what begins
-  pub set_links : (a b c : ℕ) → RisesBy (MakesKernel g rows earleme edges kernel) a b → TriesList g kernel list b c → RisesBy (IsLink g (FlatEdges g (Held edges)) top earleme) a c
+  pub set_links : (a b c : ℕ) → RisesWithin (MakesKernel g rows earleme edges kernel) a b → TriesList g kernel list b c → RisesWithin (IsLink g (FlatEdges g (Held edges)) top earleme) a c
   set_links a b c own tries =
       rises_on (IsLink g (FlatEdges g (Held edges)) top earleme) (kernel_link g edges top is_top forward rows earleme are kernel in_kernel) begun_link links_apart own (list_tried g earleme kernel list begun never_begun b c tries)

@@ -7,7 +7,7 @@ use Rattle.finite_sets.proofs.Lists.{Contains-none}
 use Rattle.recognizer_model.specs.declared.Item.{Item}
 use Rattle.recognizer_model.specs.Flat.{FlatGrammar, IsRule, lhs_of}
 use Rattle.earley_sets.specs.Begun.{IsPredicted, IsFirst}
-use Rattle.earley_sets.specs.Tried.{RisesBy, IsRuleOf}
+use Rattle.earley_sets.specs.Tried.{RisesWithin, IsRuleOf}
 use Rattle.earley_sets.proofs.Cutting.{take_next, not_before}
 use Rattle.earley_sets.proofs.Rising.{rises_none, rises_on}
 
@@ -16,7 +16,7 @@ module _ (g : FlatGrammar) (symbols : List ℕ) where
   FirstsTo items k = (item : Item) → Contains items item ↔ IsFirst g (take k symbols) item
 
   abbrev pub RulesTo : List Item → ℕ → Type 0
-  RulesTo items k = RisesBy (IsRuleOf g (take k symbols)) 0 (length items)
+  RulesTo items k = RisesWithin (IsRuleOf g (take k symbols)) 0 (length items)
 
   pub firsts_none : (items : List Item) → items ≡ [] → FirstsTo items 0
   firsts_none items none item = (λ c. absurd (Contains-none item (subst (λ l. Contains l item) none c)), λ (x, there, p). absurd (Contains-none x there))
@@ -40,9 +40,9 @@ module _ (g : FlatGrammar) (symbols : List ℕ) where
       ]),
     )
 
-    pub rules_more : AllPairs (λ a b. a ≢ b) symbols → RulesTo old k → RisesBy (λ (r : ℕ). IsRule g r × (lhs_of g r ≡ x)) (length old) (length new) → RulesTo new (k + 1)
+    pub rules_more : AllPairs (λ a b. a ≢ b) symbols → RulesTo old k → RisesWithin (λ (r : ℕ). IsRule g r × (lhs_of g r ≡ x)) (length old) (length new) → RulesTo new (k + 1)
     rules_more once before now =
-        subst (λ l. RisesBy (IsRuleOf g l) 0 (length new)) (sym next)
+        subst (λ l. RisesWithin (IsRuleOf g l) 0 (length new)) (sym next)
         (rises_on (IsRuleOf g (take k symbols ++ x ∷ []))
         (λ r (rule, there). (rule, Contains-append_left (take k symbols) (x ∷ []) (lhs_of g r) there))
         (λ r (rule, l). (rule, subst (Contains (take k symbols ++ x ∷ [])) (sym l) (Contains-push (take k symbols) x)))
@@ -51,5 +51,5 @@ module _ (g : FlatGrammar) (symbols : List ℕ) where
   pub firsts_all : (items : List Item) (k : ℕ) → length symbols ≤ k → FirstsTo items k → (item : Item) → Contains items item ↔ IsFirst g symbols item
   firsts_all items k le are item = subst (λ l. Contains items item ↔ IsFirst g l item) (take_all k symbols le) (are item)
 
-  pub rules_all : (items : List Item) (k : ℕ) → length symbols ≤ k → RulesTo items k → RisesBy (IsRuleOf g symbols) 0 (length items)
-  rules_all items k le r = subst (λ l. RisesBy (IsRuleOf g l) 0 (length items)) (take_all k symbols le) r
+  pub rules_all : (items : List Item) (k : ℕ) → length symbols ≤ k → RulesTo items k → RisesWithin (IsRuleOf g symbols) 0 (length items)
+  rules_all items k le r = subst (λ l. RisesWithin (IsRuleOf g l) 0 (length items)) (take_all k symbols le) r

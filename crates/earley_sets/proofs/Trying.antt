@@ -20,7 +20,7 @@ use Rattle.recognizer_model.specs.declared.Pair.{Pair}
 use Rattle.leo_items.specs.ByRows.{pair_of}
 use Rattle.earley_sets.specs.Kept.{IsItem}
 use Rattle.earley_sets.specs.Scanning.{GoForward, AreReduced}
-use Rattle.earley_sets.specs.Tried.{RisesBy, AwaitsEdge, MakesScan, MakesSkip, RisesByDone, MakesLink, MakesOne, MakesKernel, MakesLater}
+use Rattle.earley_sets.specs.Tried.{RisesWithin, AwaitsEdge, MakesScan, MakesSkip, RisesWithinDone, MakesLink, MakesOne, MakesKernel, MakesLater}
 use Rattle.earley_sets.proofs.ByRows.{to_none, to_leads}
 use Rattle.earley_sets.proofs.Cutting.{not_before, take_next}
 use Rattle.earley_sets.proofs.Rising.{rises_none, rises_one, rises_as, rises_over, rises_on}
@@ -29,7 +29,7 @@ terminal_same : {s t : ℕ} → Some (Terminal s) ≡ Some (Terminal t) → s �
 terminal_same e = cc
 
 -- the items of a list, each with another put in its place
-pub rises_listed : (P : Item → Type 0) (xs : List Item) → IsListOf P xs → (f : Item → Item) (old new : List Item) → new ≡ old ++ map f xs → RisesBy P (length old) (length new)
+pub rises_listed : (P : Item → Type 0) (xs : List Item) → IsListOf P xs → (f : Item → Item) (old new : List Item) → new ≡ old ++ map f xs → RisesWithin P (length old) (length new)
 rises_listed P xs lists f old new is = record {
   values = xs;
   once = lists.once;
@@ -38,22 +38,22 @@ rises_listed P xs lists f old new is = record {
 }
 
 -- the link of a symbol that is skipped over
-pub rises_skipped : (g : FlatGrammar) (item : Item) (x a b : ℕ) → IsNullable g x → b ≡ a + 1 → RisesBy (MakesSkip g item x) a b
+pub rises_skipped : (g : FlatGrammar) (item : Item) (x a b : ℕ) → IsNullable g x → b ≡ a + 1 → RisesWithin (MakesSkip g item x) a b
 rises_skipped g item x a b n e = rises_one (MakesSkip g item x) (Skips item) a b (n, refl) e
 
-pub rises_unskipped : (g : FlatGrammar) (item : Item) (x a : ℕ) → RisesBy (MakesSkip g item x) a a
+pub rises_unskipped : (g : FlatGrammar) (item : Item) (x a : ℕ) → RisesWithin (MakesSkip g item x) a a
 rises_unskipped g item x a = rises_none (MakesSkip g item x) a a refl
 
 module _ (g : FlatGrammar) (item : Item) where
-  pub later_none : (a b : ℕ) → b ≡ a → RisesBy (MakesLater g item) a b
+  pub later_none : (a b : ℕ) → b ≡ a → RisesWithin (MakesLater g item) a b
   later_none a b e = rises_none (MakesLater g item) a b e
 
   module _ (x a b c : ℕ) (waits : after g item ≡ Some x) where
-    predicted : RisesBy (λ (r : ℕ). IsRule g r × (lhs_of g r ≡ x)) a b → RisesBy (λ l. (r : ℕ) × IsRule g r × (lhs_of g r ≡ x) × (l ≡ Predicts item r)) a b
+    predicted : RisesWithin (λ (r : ℕ). IsRule g r × (lhs_of g r ≡ x)) a b → RisesWithin (λ l. (r : ℕ) × IsRule g r × (lhs_of g r ≡ x) × (l ≡ Predicts item r)) a b
     predicted rules = rises_over (λ l. (r : ℕ) × IsRule g r × (lhs_of g r ≡ x) × (l ≡ Predicts item r)) (Predicts item) (λ r (rule, l). (r, rule, l, refl)) (λ r s h i e. cc) rules
 
     -- the links of the rules of the symbol, and then that of skipping over it
-    pub links_later : RisesBy (λ (r : ℕ). IsRule g r × (lhs_of g r ≡ x)) a b → RisesBy (MakesSkip g item x) b c → RisesBy (MakesLater g item) a c
+    pub links_later : RisesWithin (λ (r : ℕ). IsRule g r × (lhs_of g r ≡ x)) a b → RisesWithin (MakesSkip g item x) b c → RisesWithin (MakesLater g item) a c
     links_later rules skip =
         rises_on (MakesLater g item)
         (λ l (r, rule, i, s). subst (MakesLater g item) (sym s) (refl, (x, waits, rule, i)))
@@ -61,19 +61,19 @@ module _ (g : FlatGrammar) (item : Item) where
         (λ l (r, rule, i, s) (n', t). absurd (let d : Predicts item r ≡ Skips item = sym s ∙ t in cc)) (predicted rules) skip
 
 module _ (g : FlatGrammar) (rows : List (List Item)) (earleme : ℕ) (item : Item) where
-  pub links_skipped : (x a b : ℕ) → after g item ≡ Some x → RisesBy (MakesSkip g item x) a b → RisesBy (MakesLink g rows earleme item) a b
+  pub links_skipped : (x a b : ℕ) → after g item ≡ Some x → RisesWithin (MakesSkip g item x) a b → RisesWithin (MakesLink g rows earleme item) a b
   links_skipped x a b e r = rises_as (MakesLink g rows earleme item) (λ l (n, s). subst (MakesLink g rows earleme item) (sym s) (refl, (x, e, n))) r
 
   module _ (none : after g item ≡ None) (is : IsItem g item) (lt : item.origin < earleme) where
     whole : IsWhole g item
     whole = get_end (rhs_of g item.rule) item.dot is.within none
 
-    done : (a b : ℕ) → RisesByDone g rows item.origin (lhs_of g item.rule) a b → RisesBy (MakesLink g rows earleme item) a b
+    done : (a b : ℕ) → RisesWithinDone g rows item.origin (lhs_of g item.rule) a b → RisesWithin (MakesLink g rows earleme item) a b
     done a b (inl (never, r)) = rises_over (MakesLink g rows earleme item) (Completes item) (λ w h. (refl, whole, lt, never, h)) (λ v w h i e. cc) r
     done a b (inr ((topmost, leads), e)) = rises_one (MakesLink g rows earleme item) (Leaps item) a b (refl, whole, lt, (topmost, leads)) e
 
-    pub links_done : (pair : Pair) → pair ≡ pair_of g item → (a b : ℕ) → RisesByDone g rows pair.set pair.symbol a b → RisesBy (MakesLink g rows earleme item) a b
-    links_done pair same a b r = done a b (subst (λ (p : Pair). RisesByDone g rows p.set p.symbol a b) same r)
+    pub links_done : (pair : Pair) → pair ≡ pair_of g item → (a b : ℕ) → RisesWithinDone g rows pair.set pair.symbol a b → RisesWithin (MakesLink g rows earleme item) a b
+    links_done pair same a b r = done a b (subst (λ (p : Pair). RisesWithinDone g rows p.set p.symbol a b) same r)
 
   -- a link names the item that makes it
   pub same_maker : (link : Link) (other : Item) → MakesLink g rows earleme item link → MakesLink g rows earleme other link → item ≡ other
@@ -99,32 +99,32 @@ module _ (M : Item → Link → Type 0) (same : (item : Item) (link : Link) (oth
   abbrev pub MakesAny : List Item → Link → Type 0
   MakesAny items link = (item : Item) × Contains items item × M item link
 
-  pub tried_none : (keys : List Item) (a b : ℕ) → b ≡ a → RisesBy (MakesAny (take 0 keys)) a b
+  pub tried_none : (keys : List Item) (a b : ℕ) → b ≡ a → RisesWithin (MakesAny (take 0 keys)) a b
   tried_none keys a b e = rises_none (MakesAny (take 0 keys)) a b e
 
   -- the links of one item more
   pub tried_more : (keys new more : List Item) (k : ℕ) (item : Item) (a b c : ℕ) → AllPairs (λ x y. x ≢ y) keys → Some item ≡ slice_get keys k → new ≡ keys ++ more →
-      RisesBy (MakesAny (take k keys)) a b → RisesBy (M item) b c → RisesBy (MakesAny (take (k + 1) new)) a c
+      RisesWithin (MakesAny (take k keys)) a b → RisesWithin (M item) b c → RisesWithin (MakesAny (take (k + 1) new)) a c
   tried_more keys new more k item a b c once at is before now =
-      subst (λ l. RisesBy (MakesAny l) a c) (sym (ap (take (k + 1)) is ∙ take_next keys more k item at))
+      subst (λ l. RisesWithin (MakesAny l) a c) (sym (ap (take (k + 1)) is ∙ take_next keys more k item at))
       (rises_on (MakesAny (take k keys ++ item ∷ []))
       (λ link (other, there, m). (other, Contains-append_left (take k keys) (item ∷ []) other there, m))
       (λ link m. (item, Contains-push (take k keys) item, m))
       (λ link (other, there, m) n. not_before keys k item once at (subst (Contains (take k keys)) (same other link item m n) there)) before now)
 
-  pub tried_all : (keys : List Item) (k a b : ℕ) → length keys ≤ k → RisesBy (MakesAny (take k keys)) a b → RisesBy (MakesAny keys) a b
-  tried_all keys k a b le r = subst (λ l. RisesBy (MakesAny l) a b) (take_all k keys le) r
+  pub tried_all : (keys : List Item) (k a b : ℕ) → length keys ≤ k → RisesWithin (MakesAny (take k keys)) a b → RisesWithin (MakesAny keys) a b
+  tried_all keys k a b le r = subst (λ l. RisesWithin (MakesAny l) a b) (take_all k keys le) r
 
 module _ (g : FlatGrammar) (rows : List (List Item)) (earleme : ℕ) where
   -- the links of no edge
-  pub scans_none : (edges : List HeldEdge) (a : ℕ) → RisesBy (MakesScan g rows earleme (take 0 edges)) a a
+  pub scans_none : (edges : List HeldEdge) (a : ℕ) → RisesWithin (MakesScan g rows earleme (take 0 edges)) a a
   scans_none edges a = rises_none (MakesScan g rows earleme (take 0 edges)) a a refl
 
   -- the links of one edge more
   pub scans_more : (edges : List HeldEdge) (k : ℕ) (edge : HeldEdge) (a b c : ℕ) → AllPairs (λ x y. x ≢ y) edges → slice_get edges k ≡ Some edge → edge.to ≡ earleme →
-      RisesBy (MakesScan g rows earleme (take k edges)) a b → RisesBy (AwaitsEdge g rows edge) b c → RisesBy (MakesScan g rows earleme (take (k + 1) edges)) a c
+      RisesWithin (MakesScan g rows earleme (take k edges)) a b → RisesWithin (AwaitsEdge g rows edge) b c → RisesWithin (MakesScan g rows earleme (take (k + 1) edges)) a c
   scans_more edges k edge a b c once at ends before now =
-      subst (λ l. RisesBy (MakesScan g rows earleme l) a c) (sym (ap (take (k + 1)) (sym (append-nil edges)) ∙ take_next edges [] k edge (sym at)))
+      subst (λ l. RisesWithin (MakesScan g rows earleme l) a c) (sym (ap (take (k + 1)) (sym (append-nil edges)) ∙ take_next edges [] k edge (sym at)))
       (rises_on (MakesScan g rows earleme (take k edges ++ edge ∷ []))
       (λ link (other, there, ends, m). (other, Contains-append_left (take k edges) (edge ∷ []) other there, ends, m))
       (λ link (item, m, e). (edge, Contains-push (take k edges) edge, ends, (item, m, e)))
@@ -141,11 +141,11 @@ module _ (g : FlatGrammar) (rows : List (List Item)) (earleme : ℕ) where
           let tos : other.to ≡ edge.to = ends' ∙ sym ends in
           λ i. record { symbol = terminals i; from = froms i; to = tos i }
 
-  pub scans_all : (edges : List HeldEdge) (k a b : ℕ) → length edges ≤ k → RisesBy (MakesScan g rows earleme (take k edges)) a b → RisesBy (MakesScan g rows earleme edges) a b
-  scans_all edges k a b le r = subst (λ l. RisesBy (MakesScan g rows earleme l) a b) (take_all k edges le) r
+  pub scans_all : (edges : List HeldEdge) (k a b : ℕ) → length edges ≤ k → RisesWithin (MakesScan g rows earleme (take k edges)) a b → RisesWithin (MakesScan g rows earleme edges) a b
+  scans_all edges k a b le r = subst (λ l. RisesWithin (MakesScan g rows earleme l) a b) (take_all k edges le) r
 
   -- the links of those that end at the place, of all edges
-  pub scans_ending : (edges ending : List HeldEdge) (a b : ℕ) → ((e : HeldEdge) → Contains ending e ↔ (Contains edges e × (e.to ≡ earleme))) → RisesBy (MakesScan g rows earleme ending) a b → RisesBy (MakesScan g rows earleme edges) a b
+  pub scans_ending : (edges ending : List HeldEdge) (a b : ℕ) → ((e : HeldEdge) → Contains ending e ↔ (Contains edges e × (e.to ≡ earleme))) → RisesWithin (MakesScan g rows earleme ending) a b → RisesWithin (MakesScan g rows earleme edges) a b
   scans_ending edges ending a b are r = rises_as (MakesScan g rows earleme edges) (λ link (edge, there, ends, m). (edge, ((are edge).0 there).0, ends, m)) r
 
 -- what was tried while a set was made are links of the set
@@ -171,6 +171,6 @@ module _ (g : FlatGrammar) (edges : List HeldEdge) (top : ℕ) (is_top : IsTop g
   kernel_link keys inside link (inr (item, there, m)) = item_link item (inside item there) link m
 
 -- the edges' links and then those of all items
-pub all_links : (g : FlatGrammar) (edges : List HeldEdge) (rows : List (List Item)) (earleme : ℕ) (keys : List Item) (a b c : ℕ) → RisesBy (MakesScan g rows earleme edges) a b → RisesBy (MakesOne g rows earleme keys) b c → RisesBy (MakesKernel g rows earleme edges keys) a c
+pub all_links : (g : FlatGrammar) (edges : List HeldEdge) (rows : List (List Item)) (earleme : ℕ) (keys : List Item) (a b c : ℕ) → RisesWithin (MakesScan g rows earleme edges) a b → RisesWithin (MakesOne g rows earleme keys) b c → RisesWithin (MakesKernel g rows earleme edges keys) a c
 all_links g edges rows earleme keys a b c scans made =
     rises_on (MakesKernel g rows earleme edges keys) (λ link m. inl m) (λ link m. inr m) (λ link (edge, held, ends, (from, w, e)) (item, there, m). never_scans g rows earleme item link from edge.from e m) scans made

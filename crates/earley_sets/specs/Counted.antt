@@ -2,7 +2,7 @@
 use Rattle.std.specs.Prelude.{ℕ, ◌+◌, ◌≤◌}
 use Rattle.recognizer_model.specs.Counts.{IsCountOf}
 use Rattle.recognizer_model.specs.Links.{PlacedLink, IsPlacedLink}
-use Rattle.earley_sets.specs.Tried.{RisesBy}
+use Rattle.earley_sets.specs.Tried.{RisesWithin}
 use Rattle.earley_sets.specs.Recognizer.{Recognizer, earleme_of, edges_of, top_of, made, IsLeoPair}
 
 -- a link of the set of a place after the first
@@ -11,7 +11,7 @@ IsLinkOf r = IsPlacedLink r.flat (edges_of r) (top_of r) (earleme_of r)
 
 -- as many steps as tries of different links, and one for each pair that was noted
 abbrev pub CountsFrom : Recognizer → (before after : ℕ) → Type 0
-CountsFrom r before after = RisesBy (IsLinkOf r) (before + made r) after
+CountsFrom r before after = RisesWithin (IsLinkOf r) (before + made r) after
 
 -- at most a step for each link, and one for each Leo pair
 abbrev pub TakesAtMost : Recognizer → (before after : ℕ) → Type 0

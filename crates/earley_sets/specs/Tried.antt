@@ -13,15 +13,15 @@ use Rattle.leo_items.specs.ByRows.{IsNotLeoIn, LeadsIn}
 use Rattle.earley_sets.specs.Begun.{AreAwaited}
 
 -- the number rises by one for each of some different values with the property
-pub record RisesBy {A : Type 0} (P : A → Type 0) (old new : ℕ) : Type 0 where
+pub record RisesWithin {A : Type 0} (P : A → Type 0) (old new : ℕ) : Type 0 where
   pub values : List A
   pub once : AllPairs (λ x y. x ≢ y) values
   pub are : (x : A) → Contains values x → P x
   pub count : new ≡ old + length values
 
 -- the number rises by one for each link of the set of a place
-abbrev pub RisesByLinks : FlatGrammar → List HeldEdge → (top earleme : ℕ) → (old new : ℕ) → Type 0
-RisesByLinks g edges top earleme old new = RisesBy (IsLink g (FlatEdges g (Held edges)) top earleme) old new
+abbrev pub RisesWithinLinks : FlatGrammar → List HeldEdge → (top earleme : ℕ) → (old new : ℕ) → Type 0
+RisesWithinLinks g edges top earleme old new = RisesWithin (IsLink g (FlatEdges g (Held edges)) top earleme) old new
 
 -- an item of the row waits for the symbol
 abbrev pub IsWaiting : FlatGrammar → List Item → (symbol : ℕ) → Item → Type 0
@@ -41,8 +41,8 @@ abbrev pub MakesSkip : FlatGrammar → Item → (symbol : ℕ) → Link → Type
 MakesSkip g item x link = IsNullable g x × (link ≡ Skips item)
 
 -- the number rises by one for each item that the completion of the symbol advances, or by one where it leaps
-abbrev pub RisesByDone : FlatGrammar → (rows : List (List Item)) → (i x : ℕ) → (old new : ℕ) → Type 0
-RisesByDone g rows i x old new = (IsNotLeoIn g rows i x × RisesBy (IsWaiting g (row_at rows i) x) old new) ⊎ (((topmost : Item) × LeadsIn g rows i x topmost) × (new ≡ old + 1))
+abbrev pub RisesWithinDone : FlatGrammar → (rows : List (List Item)) → (i x : ℕ) → (old new : ℕ) → Type 0
+RisesWithinDone g rows i x old new = (IsNotLeoIn g rows i x × RisesWithin (IsWaiting g (row_at rows i) x) old new) ⊎ (((topmost : Item) × LeadsIn g rows i x topmost) × (new ≡ old + 1))
 
 -- the links that an item of a set makes with what goes on from it, by the rows of the places before
 abbrev pub MakesLink : FlatGrammar → (rows : List (List Item)) → (earleme : ℕ) → Item → Link → Type 0
@@ -77,7 +77,7 @@ IsRuleOf g symbols r = IsRule g r × Contains symbols (lhs_of g r)
 
 -- the number rises by one for each rule of the symbols, and then by one for each link of the items that begin
 abbrev pub TriesBegun : FlatGrammar → (symbols : List ℕ) → List Item → (old new : ℕ) → Type 0
-TriesBegun g symbols items old new = (mid : ℕ) × RisesBy (IsRuleOf g symbols) old mid × RisesBy (MakesOneLater g items) mid new
+TriesBegun g symbols items old new = (mid : ℕ) × RisesWithin (IsRuleOf g symbols) old mid × RisesWithin (MakesOneLater g items) mid new
 
 -- no step is needed where the list is there; else the tries that it takes to make it
 abbrev pub TriesList : FlatGrammar → List Item → (list : List Item) → (old new : ℕ) → Type 0

@@ -8,7 +8,7 @@ ghost use Rattle.item_rows.specs.Kept.{IsItem, AreItems};
 ghost use Rattle.item_rows.specs.Heads.{AreHeads};
 ghost use Rattle.earley_sets.specs.Closing.{Follows, IsReached};
 ghost use Rattle.earley_sets.specs.Begun.{IsPredicted, IsFirst, BeginTogether, AreBegun};
-ghost use Rattle.earley_sets.specs.Tried.{RisesBy, MakesLater, MakesOneLater, IsRuleOf, TriesBegun};
+ghost use Rattle.earley_sets.specs.Tried.{RisesWithin, MakesLater, MakesOneLater, IsRuleOf, TriesBegun};
 
 use crate::close::{add_items, item_at, refill};
 use crate::follow::{list_skipped, next_symbol};
@@ -25,7 +25,7 @@ fn list_predicted(first: u32, end: u32, next: &mut Vec<Item>) -> Result<(), Allo
     ensures listed { OnOk result ((other : Item) → Contains next.new.items other ↔
         (Contains next.old.items other ⊎ ((r : ℕ) × (first ≤ r) × (r < end) ×
         (other ≡ first_item r 0)))) }
-    ensures links { OnOk result (RisesBy (λ (r : ℕ). (first ≤ r) × (r < end))
+    ensures links { OnOk result (RisesWithin (λ (r : ℕ). (first ≤ r) × (r < end))
         (length next.old.items) (length next.new.items)) }
 {
     for rule in first..end {
@@ -49,7 +49,7 @@ fn list_rules(
     ensures listed { OnOk result ((other : Item) →
         Contains next.new.items other ↔
         (Contains next.old.items other ⊎ IsPredicted flat.now symbol other)) }
-    ensures links { OnOk result (RisesBy
+    ensures links { OnOk result (RisesWithin
         (λ (r : ℕ). IsRule flat.now r × (lhs_of flat.now r ≡ symbol)) (length next.old.items)
         (length next.new.items)) }
 {
@@ -87,7 +87,7 @@ fn list_unbegun(
         IsPredicted flat.now symbol other) }
     ensures all { OnOk result ((other : Item) → IsPredicted flat.now symbol other →
         Contains set.now.keys other ⊎ Contains next.new.items other) }
-    ensures links { OnOk result (RisesBy
+    ensures links { OnOk result (RisesWithin
         (λ (r : ℕ). IsRule flat.now r × (lhs_of flat.now r ≡ symbol)) 0 (length next.new.items)) }
 {
     if have_begun(flat, heads, set, symbol) {
@@ -112,7 +112,7 @@ fn list_later(
         Follows flat.now [] 0 item other) }
     ensures all { OnOk result ((other : Item) → Follows flat.now [] 0 item other →
         Contains set.now.keys other ⊎ Contains next.new.items other) }
-    ensures links { OnOk result (RisesBy (MakesLater flat.now item) 0 (length next.new.items)) }
+    ensures links { OnOk result (RisesWithin (MakesLater flat.now item) 0 (length next.new.items)) }
 {
     flat.known();
     next.clear();
@@ -137,7 +137,7 @@ fn close_begun<L: Ledger>(
     requires together { BeginTogether flat.now set.old.keys }
     ensures closed { OnOk result ((item : Item) →
         Contains set.new.keys item ↔ IsReached (Follows flat.now [] 0) set.old.keys item) }
-    ensures counted { OnOk result (RisesBy (MakesOneLater flat.now set.new.keys) steps.old
+    ensures counted { OnOk result (RisesWithin (MakesOneLater flat.now set.new.keys) steps.old
         steps.new) }
 {
     for k in 0..usize::MAX {
@@ -162,7 +162,7 @@ fn list_firsts(
     requires once { AllPairs (λ x y. x ≢ y) symbols.now }
     ensures listed { OnOk result ((item : Item) →
         Contains next.new.items item ↔ IsFirst flat.now symbols.now item) }
-    ensures tried { OnOk result (RisesBy (IsRuleOf flat.now symbols.now) 0
+    ensures tried { OnOk result (RisesWithin (IsRuleOf flat.now symbols.now) 0
         (length next.new.items)) }
 {
     next.clear();

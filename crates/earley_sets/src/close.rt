@@ -10,7 +10,7 @@ ghost use Rattle.earley_sets.specs.Kept.{IsItem, AreItems, HasRows};
 ghost use Rattle.item_rows.specs.Heads.{AreHeads};
 ghost use Rattle.earley_sets.specs.Closing.{Adds, GoesOn, IsReached, Grows};
 ghost use Rattle.earley_sets.specs.Scanning.{IsScanned, IsScannedBy, IsSeed, IsKernel, GoForward, AreReduced};
-ghost use Rattle.earley_sets.specs.Tried.{RisesBy, AwaitsEdge, MakesScan, MakesOne, MakesKernel};
+ghost use Rattle.earley_sets.specs.Tried.{RisesWithin, AwaitsEdge, MakesScan, MakesOne, MakesKernel};
 
 use crate::follow::{list_completed, list_next};
 use grammar_core::{Flat, SymbolId, TokenEdges};
@@ -81,7 +81,7 @@ fn close<L: Ledger>(
     ensures memo { NotesMore flat.now rows.now.sets memo.old memo.new }
     ensures closed { OnOk result ((item : Item) → Contains set.new.keys item ↔
         IsReached (GoesOn flat.now rows.now.sets earleme) set.old.keys item) }
-    ensures counted { OnOk result (RisesBy (MakesOne flat.now rows.now.sets earleme set.new.keys)
+    ensures counted { OnOk result (RisesWithin (MakesOne flat.now rows.now.sets earleme set.new.keys)
         (steps.old + length memo.new) (steps.new + length memo.old)) }
 {
     for k in 0..usize::MAX {
@@ -109,7 +109,7 @@ fn list_by_edge(
     requires from { edge.from < length rows.now.sets }
     ensures listed { OnOk result ((other : Item) → Contains next.new.items other ↔
         (Contains next.old.items other ⊎ IsScannedBy flat.now rows.now.sets edge other)) }
-    ensures links { OnOk result (RisesBy (AwaitsEdge flat.now rows.now.sets edge)
+    ensures links { OnOk result (RisesWithin (AwaitsEdge flat.now rows.now.sets edge)
         (length next.old.items) (length next.new.items)) }
 {
     flat.known();
@@ -135,7 +135,7 @@ fn list_scanned(
     ensures listed { OnOk result ((other : Item) → Contains next.new.items other ↔
         (Contains next.old.items other ⊎ IsScanned flat.now rows.now.sets earleme edges.now
         other)) }
-    ensures links { OnOk result (RisesBy (MakesScan flat.now rows.now.sets earleme edges.now)
+    ensures links { OnOk result (RisesWithin (MakesScan flat.now rows.now.sets earleme edges.now)
         (length next.old.items) (length next.new.items)) }
 {
     edges.list_to(earleme, ending)?;
@@ -179,7 +179,7 @@ fn list_seeds(
     ensures listed { OnOk result ((item : Item) →
         Contains next.new.items item ↔ IsSeed flat.now rows.now.sets top earleme edges.now item) }
     ensures links { OnOk result (0 < earleme →
-        RisesBy (MakesScan flat.now rows.now.sets earleme edges.now) 0 (length next.new.items)) }
+        RisesWithin (MakesScan flat.now rows.now.sets earleme edges.now) 0 (length next.new.items)) }
 {
     list_first(top, earleme, next)?;
     list_scanned(flat, heads, rows, edges, earleme, ending, next)
@@ -261,7 +261,7 @@ pub fn make_kernel<L: Ledger>(
     ensures kernel { OnOk result (IsKernel flat.now rows.now.sets top earleme edges.now
         work.new.set.keys) }
     ensures counted { OnOk result (0 < earleme →
-        RisesBy (MakesKernel flat.now rows.now.sets earleme edges.now work.new.set.keys)
+        RisesWithin (MakesKernel flat.now rows.now.sets earleme edges.now work.new.set.keys)
         (steps.old + length memo.new) (steps.new + length memo.old)) }
 {
     list_seeds(

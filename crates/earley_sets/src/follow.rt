@@ -6,7 +6,7 @@ ghost use Rattle.item_rows.specs.Rows.{row_at};
 ghost use Rattle.earley_sets.specs.Kept.{IsItem, HasRows};
 ghost use Rattle.leo_items.specs.ByRows.{IsMemo, NotesMore, AreNulled};
 ghost use Rattle.earley_sets.specs.Closing.{IsAdvancedOver, IsSkipped, IsDone, GoesOn};
-ghost use Rattle.earley_sets.specs.Tried.{RisesBy, IsWaiting, MakesSkip, RisesByDone, MakesLink};
+ghost use Rattle.earley_sets.specs.Tried.{RisesWithin, IsWaiting, MakesSkip, RisesWithinDone, MakesLink};
 
 use grammar_core::Flat;
 use item_rows::{Row, Rows};
@@ -48,7 +48,7 @@ pub fn list_skipped(
     requires symbol { symbol < length flat.now.symbols }
     ensures listed { OnOk result ((other : Item) → Contains next.new.items other ↔
         (Contains next.old.items other ⊎ IsSkipped flat.now item symbol other)) }
-    ensures links { OnOk result (RisesBy (MakesSkip flat.now item symbol) (length next.old.items)
+    ensures links { OnOk result (RisesWithin (MakesSkip flat.now item symbol) (length next.old.items)
         (length next.new.items)) }
 {
     if flat.nullable(symbol) {
@@ -70,7 +70,7 @@ pub fn list_completed(
     ensures listed { OnOk result ((other : Item) → Contains next.new.items other ↔
         (Contains next.old.items other ⊎ IsAdvancedOver flat.now (row_at rows.now.sets origin)
         symbol other)) }
-    ensures links { OnOk result (RisesBy (IsWaiting flat.now (row_at rows.now.sets origin) symbol)
+    ensures links { OnOk result (RisesWithin (IsWaiting flat.now (row_at rows.now.sets origin) symbol)
         (length next.old.items) (length next.new.items)) }
 {
     flat.known();
@@ -94,7 +94,7 @@ fn list_done<L: Ledger>(
     ensures listed { OnOk result ((other : Item) → Contains next.new.items other ↔
         (Contains next.old.items other ⊎ IsDone flat.now rows.now.sets pair.set pair.symbol
         other)) }
-    ensures links { OnOk result (RisesByDone flat.now rows.now.sets pair.set pair.symbol
+    ensures links { OnOk result (RisesWithinDone flat.now rows.now.sets pair.set pair.symbol
         (length next.old.items) (length next.new.items)) }
     ensures memo { NotesMore flat.now rows.now.sets memo.old memo.new }
     ensures counted { steps.new + length memo.old ≡ steps.old + length memo.new }
@@ -125,7 +125,7 @@ pub fn list_next<L: Ledger>(
     requires earleme { earleme ≤ length rows.now.sets }
     ensures listed { OnOk result ((other : Item) → Contains next.new.items other ↔
         (Contains next.old.items other ⊎ GoesOn flat.now rows.now.sets earleme item other)) }
-    ensures links { OnOk result (RisesBy (MakesLink flat.now rows.now.sets earleme item)
+    ensures links { OnOk result (RisesWithin (MakesLink flat.now rows.now.sets earleme item)
         (length next.old.items) (length next.new.items)) }
     ensures memo { NotesMore flat.now rows.now.sets memo.old memo.new }
     ensures counted { steps.new + length memo.old ≡ steps.old + length memo.new }

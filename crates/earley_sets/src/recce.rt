@@ -16,7 +16,7 @@ ghost use Rattle.earley_sets.specs.Kept.{HasRows};
 ghost use Rattle.item_rows.specs.Heads.{AreHeads};
 ghost use Rattle.earley_sets.specs.Begun.{AreLists};
 ghost use Rattle.earley_sets.specs.Scanning.{GoForward, AreReduced, AddsRow};
-ghost use Rattle.earley_sets.specs.Tried.{RisesByLinks};
+ghost use Rattle.earley_sets.specs.Tried.{RisesWithinLinks};
 ghost use Rattle.earley_sets.specs.Below.{StepsTo, SomeStepsTwice, LeadsUp, IsBottom, IsBottomOf, StandsBelowOf};
 ghost use Rattle.earley_sets.specs.Recognizer.{Recognizer, earleme_of, set_at, edges_of, top_of, made, new_edge, IsExpected, HasTree, IsRecognizer};
 ghost use Rattle.earley_sets.specs.declared.recce.AlternativeRefusal.TheVariants.{Unexpected, Duplicate, BadLength};
@@ -63,7 +63,7 @@ fn make_row<L: Ledger>(
     ensures memo { NotesMore flat.now rows.old.sets memo.old memo.new }
     ensures err { OnErr result (rows.new.sets ≡ rows.old.sets) }
     ensures counted { OnOk result (0 < length rows.old.sets →
-        RisesByLinks flat.now edges.now top (length rows.old.sets)
+        RisesWithinLinks flat.now edges.now top (length rows.old.sets)
         (steps.old + length memo.new) (steps.new + length memo.old)) }
 {
     let earleme = rows.len() as u32;
@@ -100,7 +100,7 @@ fn add_row<L: Ledger>(
     ensures memo { IsMemo flat.now rows.old.sets memo.new }
     ensures err { OnErr result ((rows.new.sets ≡ rows.old.sets) × (memo.new ≡ memo.old)) }
     ensures counted { OnOk result (0 < length rows.old.sets →
-        RisesByLinks flat.now edges.now top (length rows.old.sets)
+        RisesWithinLinks flat.now edges.now top (length rows.old.sets)
         (steps.old + length memo.new) (steps.new + length memo.old)) }
 {
     let noted = memo.len();

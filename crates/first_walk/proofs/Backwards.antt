@@ -4,8 +4,8 @@ use Rattle.std.specs.Prelude.{reverse, not, ◌&&◌, IsTrue}
 use Rattle.std.proofs.lemmas.List.{map-append, reverse-append}
 use Rattle.finite_sets.proofs.Members.{among_from, contains_from, among_map}
 use Rattle.grammar_model.specs.Steps.{Step}
-use Rattle.tree_iter.specs.declared.writing.FlatStep.{FlatStep}
-use Rattle.tree_iter.specs.Writing.{flat_step}
+use Rattle.flat_steps.specs.declared.writing.FlatStep.{FlatStep}
+use Rattle.flat_steps.specs.Writing.{flat_step}
 use Rattle.first_walk.specs.Going.{backwards}
 
 pub backwards_push : (new old : List FlatStep) (step : FlatStep) → new ≡ old ++ step ∷ [] → backwards new ≡ flat_step step ∷ backwards old

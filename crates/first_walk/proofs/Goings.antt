@@ -28,7 +28,7 @@ use Rattle.bocage.proofs.Splits.{IsKeyWithin, spans_forward, used_within, waits_
 use Rattle.bocage.proofs.Whole.{has_top}
 use Rattle.first_walk.specs.declared.place.Chosen.{Chosen}
 use Rattle.first_walk.specs.Walk.{is_none, IsWalk, Done, Wrote, Chose, IsFirst, IsFirstDerivation}
-use Rattle.tree_iter.specs.Writing.{IsStepOf}
+use Rattle.flat_steps.specs.Writing.{IsStepOf}
 use Rattle.first_walk.specs.Place.{reading_of, IsUnder, IsPartOf, IsCauseBy, IsFirstChoice, IsChosen}
 use Rattle.first_walk.specs.Going.{number_of, goals_of, parts_before, nothing_step, whole_key_of, whole_step, step_by, keys_by, start_of, chosen_step, chosen_keys, IsOn, AreApart, IsUnderWay, IsAhead, AreAhead}
 use Rattle.first_walk.proofs.Choices.{symbol_in}

@@ -15,8 +15,8 @@ use Rattle.forest_parts.specs.declared.parts.RuleKey.{RuleKey}
 use Rattle.forest_parts.specs.Given.{GivenAt}
 use Rattle.bocage.specs.Expanded.{IsGivenIn}
 use Rattle.bocage.specs.Walk.{IsUsedIn, top_key}
-use Rattle.tree_iter.specs.declared.writing.FlatStep.{FlatStep}
-use Rattle.tree_iter.specs.Writing.{flat_step, IsStepOf}
+use Rattle.flat_steps.specs.declared.writing.FlatStep.{FlatStep}
+use Rattle.flat_steps.specs.Writing.{flat_step, IsStepOf}
 use Rattle.first_walk.specs.declared.walk.Walk.{Walk}
 use Rattle.first_walk.specs.Walk.{IsWalk}
 use Rattle.first_walk.specs.Place.{reading_of, IsUnder, AreFrom, HasOther}

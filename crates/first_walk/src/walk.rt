@@ -18,6 +18,7 @@ ghost use Rattle.first_walk.specs.Going.{backwards, parts_before, nothing_step, 
 
 use crate::place::{Chosen, Place, choose, is_listed, list_place, new_place};
 use earley_sets::Recce;
+use flat_steps::{FlatStep, write_steps};
 use forest_parts::{Given, Part};
 use grammar_core::{Flat, TreeStep, Written};
 use grammar_model::Ranking;
@@ -25,7 +26,6 @@ use recognizer_model::NodeKey;
 use slif_base::Steps;
 use std::alloc::{AllocError, Global};
 use std::sync::ledger::Ledger;
-use tree_iter::{FlatStep, write_steps};
 
 /// The first derivation of a reading: its steps, children before their rule, and whether it is the only one.
 #[derive(Drop)]

@@ -14,3 +14,4 @@ pub mod Tops
 pub mod Taking
 pub mod Rows
 pub mod Rest
+pub mod Chained

@@ -6,3 +6,4 @@ pub mod Unasked
 pub mod Given
 pub mod Needed
 pub mod Counts
+pub mod Chains

@@ -1,6 +1,7 @@
 //! What may be the cause in a node that ends at a place, its last part: the edges and whole rules that end there, in the declared order, in groups of one symbol over one span.
 #![tactic(auto)]
 
+mod chains;
 mod counts;
 mod gather;
 mod given;
@@ -11,6 +12,7 @@ mod outranked;
 mod parts;
 mod unasked;
 
+pub use chains::{Chains, list_nodes, new_chains};
 pub use counts::count_expanded;
 pub use gather::{list_hidden, list_parts};
 pub use given::{Given, GivenHere};

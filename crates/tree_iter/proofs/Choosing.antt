@@ -17,8 +17,8 @@ use Rattle.tree_iter.specs.declared.walk.Choice.{Choice}
 use Rattle.tree_iter.specs.declared.walk.Walk.{Walk}
 use Rattle.tree_iter.specs.Goals.{goal_of, IsStack, IsReady, IsBacked, AreReady, PutsOption}
 use Rattle.tree_iter.specs.Walk.{IsKept, Trail, Wrote, Chose, done_of, steps_on, IsChoice, AreChoices, IsTrail, IsOn, Chooses, StandsBefore, SkipsTo, IsAbout}
-use Rattle.tree_iter.specs.Writing.{AreDone}
-use Rattle.tree_iter.proofs.Linked.{linked_taken}
+use Rattle.flat_steps.specs.Writing.{AreDone}
+use Rattle.flat_steps.proofs.Linked.{linked_taken}
 use Rattle.tree_iter.proofs.GoalLemmas.{units_both, ready_both, option_ready, option_units, is_goal}
 use Rattle.tree_iter.proofs.Trails.{choices_more, choices_cut}
 use Rattle.tree_iter.proofs.Walks.{walked, left_behind, IsMarked}

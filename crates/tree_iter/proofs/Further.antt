@@ -11,7 +11,7 @@ use Rattle.tree_iter.specs.declared.goals.Put.{Put}
 use Rattle.tree_iter.specs.declared.walk.Walk.{Walk}
 use Rattle.tree_iter.specs.Goals.{goal_of, IsStack, weight, weights, PutsOption}
 use Rattle.tree_iter.specs.Walk.{KeepsLeft, GoesFurther, StandsBefore, IsAbout}
-use Rattle.tree_iter.proofs.Linked.{linked_bound}
+use Rattle.flat_steps.proofs.Linked.{linked_bound}
 use Rattle.tree_iter.proofs.GoalLemmas.{mapped_at}
 use Rattle.tree_iter.proofs.Walks.{left_behind, put_left, write_left}
 

@@ -15,7 +15,7 @@ use Rattle.bocage.specs.Readers.{alternative_at, node_at}
 use Rattle.tree_iter.specs.declared.goals.GoalRow.{GoalRow}
 use Rattle.tree_iter.specs.declared.goals.Put.{Put}
 use Rattle.tree_iter.specs.Goals.{goal_of, IsStack, IsReady, AreReady, unit, units, look, Puts, PutsOption}
-use Rattle.tree_iter.proofs.Linked.{linked_push, grows_then}
+use Rattle.flat_steps.proofs.Linked.{index_is, linked_push, grows_then}
 use Rattle.recognizer_model.proofs.Sources.{rule_there}
 
 -- ---- stacks
@@ -47,11 +47,6 @@ units_both (x ∷ a) b = let h = units_both a b in omega arith
 pub ready_both : (f : Forest) (a b : List Goal) → AreReady f a → AreReady f b → AreReady f (a ++ b)
 ready_both f [] b h g = g
 ready_both f (x ∷ a) b (is, backed, h) g = let both = units_both a b in (is, omega (arith, both, backed), ready_both f a b h g)
-
-pub index_is : {X : Type 0} (xs : List X) (k : ℕ) (x d : X) → slice_get xs k ≡ Some x → slice_index_or xs k d ≡ x
-index_is [] k x d e = cc
-index_is (y ∷ xs) zero x d e = cc
-index_is (y ∷ xs) (suc k) x d e = index_is xs k x d e
 
 pub record IsSound (f : Forest) (node : ForestNode) : Type 0 where
   pub some : 0 < node.key.dot

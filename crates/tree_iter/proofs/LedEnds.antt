@@ -22,7 +22,7 @@ use Rattle.tree_iter.specs.Walk.{done_of, steps_on, HasSteps, IsBegun, AreChoice
 use Rattle.tree_iter.specs.declared.leads.LeadRow.{LeadRow}
 use Rattle.grammar_core.specs.declared.steps.TreeStep.{TreeStep}
 use Rattle.tree_iter.specs.Leads.{AreRows, HasLooks, rule_size, size_of, AreAimed, IsLedTo, Leads}
-use Rattle.tree_iter.proofs.Linked.{linked_none}
+use Rattle.flat_steps.proofs.Linked.{linked_none}
 use Rattle.tree_iter.proofs.Sizes.{size_both, sized}
 use Rattle.tree_iter.proofs.Trails.{steps_are, none_to_come}
 use Rattle.tree_iter.proofs.Walks.{stack_one, walked}

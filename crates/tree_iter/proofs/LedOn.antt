@@ -18,7 +18,7 @@ use Rattle.forest_laws.specs.Written.{steps_written}
 use Rattle.forest_laws.proofs.Leads.{nodes_lead}
 use Rattle.forest_laws.proofs.Written.{AreWritten, children_are}
 use Rattle.tree_iter.specs.Leads.{size_of, sought, upper_of, over, StandsFor, AreAimed}
-use Rattle.tree_iter.proofs.GoalLemmas.{index_is}
+use Rattle.flat_steps.proofs.Linked.{index_is}
 use Rattle.tree_iter.proofs.Sizes.{size_both, row_leads}
 use Rattle.tree_iter.proofs.LedParts.{last_no_list}
 

@@ -33,10 +33,10 @@ use Rattle.forest_laws.specs.Written.{is_list_rule, steps_written}
 use Rattle.forest_laws.proofs.Written.{IsNoTop, part_no_top, source_written, children_are, list_node, AreWritten, count, out, tree_written}
 use Rattle.bocage.specs.Readers.{node_at}
 use Rattle.tree_iter.proofs.GoalLemmas.{at_node}
-use Rattle.tree_iter.specs.Writing.{counts_behind}
+use Rattle.flat_steps.specs.Writing.{counts_behind}
 use Rattle.tree_iter.proofs.LedOn.{aimed_two}
 use Rattle.tree_iter.specs.Leads.{rule_size, size_of, IsOneOf, AreAimed, IsToldBy, IsTold, IsRuleTold}
-use Rattle.tree_iter.proofs.Written.{written_both}
+use Rattle.flat_steps.proofs.Written.{written_both}
 use Rattle.tree_iter.proofs.Sizes.{size_both, sized, children_sized, row_leads}
 use Rattle.tree_iter.proofs.LedParts.{last_no_list, item_no_list, last_part}
 use Rattle.tree_iter.proofs.LedWholes.{ends, slot_one, list_one, spans_count}

@@ -1,5 +1,3 @@
-pub mod Linked
-pub mod Written
 pub mod GoalLemmas
 pub mod Walks
 pub mod Choosing

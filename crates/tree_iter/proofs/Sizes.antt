@@ -12,9 +12,9 @@ use Rattle.forest_laws.specs.Guide.{IsRowAt}
 use Rattle.forest_laws.specs.Written.{sum_newest, is_list_rule, rule_written, step_written, counts_after, steps_written}
 use Rattle.forest_laws.proofs.Guide.{rows_lead}
 use Rattle.forest_laws.proofs.Written.{IsWritten, AreWritten, counts_of, children_written}
-use Rattle.tree_iter.specs.Writing.{counts_behind}
+use Rattle.flat_steps.specs.Writing.{counts_behind}
 use Rattle.tree_iter.specs.Leads.{rule_size, step_size, size_of}
-use Rattle.tree_iter.proofs.Written.{written_both}
+use Rattle.flat_steps.proofs.Written.{written_both}
 
 pub size_both : (g : FlatGrammar) (a b : List Step) → size_of g (a ++ b) ≡ size_of g a + size_of g b
 size_both g [] b = omega arith

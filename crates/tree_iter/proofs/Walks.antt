@@ -22,17 +22,17 @@ use Rattle.tree_iter.specs.declared.goals.Fork.{Fork}
 use Rattle.tree_iter.specs.declared.goals.Fork.TheVariants.{Parts, OneOf}
 use Rattle.tree_iter.specs.declared.goals.GoalRow.{GoalRow}
 use Rattle.tree_iter.specs.declared.goals.Put.{Put}
-use Rattle.tree_iter.specs.declared.writing.CountRow.{CountRow}
+use Rattle.flat_steps.specs.declared.writing.CountRow.{CountRow}
 use Rattle.tree_iter.specs.declared.walk.Choice.{Choice}
 use Rattle.tree_iter.specs.declared.walk.Walk.{Walk}
 use Rattle.tree_iter.specs.declared.walk.Place.TheVariants.{Walking}
 use Rattle.tree_iter.specs.declared.iter.Current.TheVariants.{Begun as NotBegun}
-use Rattle.tree_iter.specs.Linked.{Grows}
+use Rattle.flat_steps.specs.Linked.{Grows}
 use Rattle.tree_iter.specs.Goals.{fork_of, goal_of, IsStack, IsReady, IsBacked, AreReady, unit, units, look, Puts, PutsOption}
-use Rattle.tree_iter.specs.Writing.{IsStepOf, AreDone, IsCounted, counts_behind}
+use Rattle.flat_steps.specs.Writing.{IsStepOf, AreDone, IsCounted, counts_behind}
 use Rattle.tree_iter.specs.Walk.{IsKept, IsLast, HasLeft, KeepsLeft, HasSteps, Looks, Trail, Begun, Wrote, Chose, done_of, steps_on, IsChoice, AreChoices, IsTrail, StandsBefore, StandsBehind, Reaches, Stays, IsOn, IsAbout, IsBack, IsUnderWay}
-use Rattle.tree_iter.proofs.Linked.{grows_none, drop_from, linked_top, linked_none, linked_more, linked_taken, linked_bound}
-use Rattle.tree_iter.proofs.Written.{done_taken}
+use Rattle.flat_steps.proofs.Linked.{grows_none, drop_from, linked_top, linked_none, linked_more, linked_taken, linked_bound}
+use Rattle.flat_steps.proofs.Written.{done_taken}
 use Rattle.tree_iter.proofs.GoalLemmas.{units_both, ready_both, option_ready, option_units, root_ready}
 use Rattle.tree_iter.proofs.Trails.{no_more, same_ends, steps_are, choice_in, choices_more, choices_cut, cut_at, none_to_come}
 

@@ -11,8 +11,8 @@ use Rattle.tree_iter.specs.declared.goals.Opened.{Opened}
 use Rattle.tree_iter.specs.declared.goals.Opened.TheVariants as opened
 use Rattle.tree_iter.specs.declared.goals.Put.{Put}
 use Rattle.bocage.specs.Readers.{node_at}
-use Rattle.tree_iter.specs.Linked.{IsLinked, Grows}
-use Rattle.tree_iter.specs.Writing.{flat_step, IsStepOf}
+use Rattle.flat_steps.specs.Linked.{IsLinked, Grows}
+use Rattle.flat_steps.specs.Writing.{flat_step, IsStepOf}
 
 abbrev pub fork_of : Fork → Goal
 fork_of (fork.Parts node) = Parts node

@@ -16,7 +16,7 @@ use Rattle.tree_iter.specs.declared.walk.Place.{Place}
 use Rattle.tree_iter.specs.declared.walk.Place.TheVariants.{Walking, Between}
 use Rattle.tree_iter.specs.declared.iter.Current.{Current}
 use Rattle.tree_iter.specs.declared.iter.Current.TheVariants.{Begun as NotBegun, Walked, Copied, Ended}
-use Rattle.tree_iter.specs.Writing.{AreDone}
+use Rattle.flat_steps.specs.Writing.{AreDone}
 use Rattle.tree_iter.specs.Goals.{fork_of, goal_of, IsStack, IsReady, IsBacked, AreReady, units, weights}
 
 -- the trail of a walk, which in Prolog tells what going back undoes: what it has done, the newest last; it wrote a step, or chose an option

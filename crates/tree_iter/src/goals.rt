@@ -4,11 +4,11 @@ ghost use Rattle.forest_laws.specs.Goals.{IsGoal, options, alternative_goals, ca
 ghost use Rattle.forest_laws.specs.Lists.{cause_symbol as symbol_of_cause};
 ghost use Rattle.bocage.specs.Rows.{cause_told};
 ghost use Rattle.bocage.specs.Readers.{alternative_at, node_at};
-ghost use Rattle.tree_iter.specs.Linked.{Grows};
+ghost use Rattle.flat_steps.specs.Linked.{Grows};
 ghost use Rattle.tree_iter.specs.Goals.{fork_of, goal_of, goal_opened, look, IsOpened, Puts, PutsOption};
 
-use crate::writing::FlatStep;
 use bocage::{Alternatives, Cause, Forest};
+use flat_steps::FlatStep;
 use slif_base::Steps;
 use std::alloc::AllocError as NoMemory;
 use std::sync::ledger::Ledger;

@@ -17,8 +17,8 @@ ghost use Rattle.tree_iter.specs.Walk.{StandsBefore, IsAbout, GoesPast, GoesFurt
 use crate::goals::{Fork, Goal, Opened, goal_row};
 use crate::leads::{LeadRow, leads_of};
 use crate::walk::Walk;
-use crate::writing::is_list_rule;
 use bocage::Forest;
+use flat_steps::is_list_rule;
 use grammar_core::{FlatSource, RuleId, TreeStep, Written, WrittenRule};
 use slif_base::Steps;
 use std::alloc::{AllocError as NoMemory, Global};

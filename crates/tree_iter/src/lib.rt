@@ -6,7 +6,5 @@ mod iter;
 mod jump;
 mod leads;
 mod walk;
-mod writing;
 
 pub use iter::TreeIter;
-pub use writing::{FlatStep, write_steps};

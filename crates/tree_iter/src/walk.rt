@@ -4,7 +4,7 @@ ghost use Rattle.std.specs.Prelude.{◌≡◌, ℕ, true, ◌+◌, ◌<◌, ◌�
 ghost use Rattle.grammar_model.specs.Steps.{Step};
 ghost use Rattle.forest_laws.specs.Lists.{Lists};
 ghost use Rattle.forest_laws.specs.Goals.{Goal as FlatGoal, Write, options};
-ghost use Rattle.tree_iter.specs.Writing.{flat_step};
+ghost use Rattle.flat_steps.specs.Writing.{flat_step};
 ghost use Rattle.tree_iter.specs.Goals.{fork_of, goal_opened, look, IsOpened};
 ghost use Rattle.tree_iter.specs.Walk.{IsKept, KeepsLeft, HasSteps, Looks, GoesFurther, AreFewLooks, LeavesSome, Stays, Trail, Wrote, IsOn, Chooses, IsAbout, IsBack, Goes, StandsBefore, StandsBehind, Reaches, Turns, Remain, Advances, IsBegun, IsUnderWay, IsLast};
 ghost use Rattle.tree_iter.specs.declared.walk.Place.TheVariants.{Walking};
@@ -13,8 +13,8 @@ ghost use Rattle.tree_iter.specs.declared.iter.Current.TheVariants.{Begun as Not
 use crate::goals::{
     Fork, Goal, GoalRow, MOST_ROWS, Opened, goal_row, look_at, put_option, put_root,
 };
-use crate::writing::{CountRow, FlatStep, write_step};
 use bocage::Forest;
+use flat_steps::{CountRow, FlatStep, write_step};
 use grammar_core::TreeStep;
 use slif_base::Steps;
 use std::alloc::{AllocError as NoMemory, Global};

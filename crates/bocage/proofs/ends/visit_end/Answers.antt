@@ -3,13 +3,12 @@ use Rattle.std.proofs.lemmas.Bool.{eqb-true}
 use Rattle.std.proofs.lemmas.Result.{on_ok_weaker, IfOk-from_err}
 use Rattle.recognizer_model.specs.declared.Item.{Item}
 use Rattle.forest_parts.specs.Needed.{IsAskedAnew}
-use Rattle.bocage.specs.declared.chains.Chains.{Chains}
-use Rattle.bocage.specs.Chains.{EndsAt, AreChained}
+use Rattle.forest_parts.specs.declared.chains.Chains.{Chains}
+use Rattle.forest_parts.specs.Chains.{EndsAt, AreChained}
 use Rattle.bocage.specs.Given.{IsAfterAt}
 use Rattle.bocage.specs.Needed.{AreNeeded}
 use Rattle.bocage.specs.Walk.{IsUsedIn}
-use Rattle.bocage.proofs.Chained.{chained_more}
-use Rattle.bocage.proofs.Visiting.{none_visited}
+use Rattle.bocage.proofs.Visiting.{chained_more, none_visited}
 use Rattle.forest_parts.proofs.Counting.{rises_of, rises_none}
 use Rattle.forest_parts.proofs.Tops.{below_hidden}
 use Rattle.bocage.proofs.HiddenNodes.{asked_node}

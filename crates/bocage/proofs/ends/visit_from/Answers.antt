@@ -1,5 +1,5 @@
 use Rattle.std.proofs.Common.{◌∙◌, ◌<◌, ◌↔◌, ℕ, List, Contains, sym, subst}
-use Rattle.bocage.specs.Chains.{EndsAt}
+use Rattle.forest_parts.specs.Chains.{EndsAt}
 use Rattle.bocage.proofs.Joining.{gathered_same}
 use Rattle.bocage.proofs.ends.visit_from.Goals as goal
 

@@ -6,7 +6,7 @@ use Rattle.bocage.specs.Ends.{IsGoing, AreVisited}
 use Rattle.bocage.specs.Given.{IsGivenAfter, IsAfterFrom}
 use Rattle.bocage.proofs.Expanding.{within_first, within_more, within_all}
 use Rattle.bocage.proofs.Growing.{grows_then}
-use Rattle.bocage.proofs.Chained.{none_chained}
+use Rattle.forest_parts.proofs.Chained.{none_chained}
 use Rattle.bocage.proofs.Visiting.{going_first, going_next}
 use Rattle.std.proofs.lemmas.Result.{IfOk-from_err}
 use Rattle.bocage.proofs.ends.walk.Goals as goal

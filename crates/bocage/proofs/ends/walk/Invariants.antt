@@ -1,7 +1,7 @@
 use Rattle.std.proofs.Common.{◌-◌, map}
 use Rattle.forest_parts.specs.Hidden.{RisesWithin}
 use Rattle.bocage.specs.Walk.{IsUsedIn, GrowsBy}
-use Rattle.bocage.specs.Chains.{AreChained}
+use Rattle.forest_parts.specs.Chains.{AreChained}
 use Rattle.bocage.specs.Ends.{AreVisited}
 use Rattle.bocage.specs.Given.{IsAfterFrom}
 use Rattle.bocage.proofs.ends.walk.Given as goal

@@ -3,7 +3,7 @@ use Rattle.recognizer_model.specs.declared.Item.{Item}
 use Rattle.earley_sets.specs.Closing.{Follows}
 use Rattle.earley_sets.specs.Begun.{BeginTogether}
 use Rattle.leo_items.specs.Closed.{IsClosedTo}
-use Rattle.earley_sets.specs.Tried.{RisesBy, MakesOneLater}
+use Rattle.earley_sets.specs.Tried.{RisesWithin, MakesOneLater}
 use Rattle.earley_sets.proofs.begun.close_begun.Given as goal
 
 abbrev pub invariant-loop-k : goal.invariant-loop-k
@@ -11,5 +11,5 @@ invariant-loop-k g l = record {
   closed : IsClosedTo l.flat (Follows l.flat [] 0) l.initial.set.keys l.set.keys l.k;
   origins : (item : Item) → Contains l.set.keys item → item.origin ≡ 0;
   together : BeginTogether l.flat l.set.keys;
-  counted : RisesBy (MakesOneLater l.flat (take l.k l.set.keys)) l.initial.steps l.steps;
+  counted : RisesWithin (MakesOneLater l.flat (take l.k l.set.keys)) l.initial.steps l.steps;
 }

@@ -1,10 +1,10 @@
 use Rattle.std.proofs.Common.{length, take}
-use Rattle.earley_sets.specs.Tried.{RisesBy, MakesScan}
+use Rattle.earley_sets.specs.Tried.{RisesWithin, MakesScan}
 use Rattle.earley_sets.proofs.Scanning.{ListedTo}
 use Rattle.earley_sets.proofs.close.list_scanned.Given as goal
 
 abbrev pub invariant-loop-edge : goal.invariant-loop-edge
 invariant-loop-edge l = record {
   listed : ListedTo l.flat l.rows.sets l.earleme l.edge-items l.initial.next.items l.next.items l.edge-index;
-  links : RisesBy (MakesScan l.flat l.rows.sets l.earleme (take l.edge-index l.edge-items)) (length l.initial.next.items) (length l.next.items);
+  links : RisesWithin (MakesScan l.flat l.rows.sets l.earleme (take l.edge-index l.edge-items)) (length l.initial.next.items) (length l.next.items);
 }

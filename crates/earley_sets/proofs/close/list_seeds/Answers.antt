@@ -1,6 +1,6 @@
 use Rattle.std.proofs.Common.{inl, inr, length, subst}
 use Rattle.std.proofs.lemmas.Result.{on_ok_weaker}
-use Rattle.earley_sets.specs.Tried.{RisesBy, MakesScan}
+use Rattle.earley_sets.specs.Tried.{RisesWithin, MakesScan}
 use Rattle.earley_sets.proofs.close.list_seeds.Goals as goal
 
 pub returns-clause-listed : goal.returns-clause-listed
@@ -15,5 +15,5 @@ returns-clause-listed c =
 pub returns-clause-links : goal.returns-clause-links
 returns-clause-links c =
     on_ok_weaker c.list_scanned.result
-    (λ r some. subst (λ n. RisesBy (MakesScan c.args.flat.now c.args.rows.now.sets c.args.earleme c.args.edges.now) n (length c.list_scanned.new.next.items)) (c.in_ok-list_first.ensures.none some) r)
+    (λ r some. subst (λ n. RisesWithin (MakesScan c.args.flat.now c.args.rows.now.sets c.args.earleme c.args.edges.now) n (length c.list_scanned.new.next.items)) (c.in_ok-list_first.ensures.none some) r)
     c.list_scanned.ensures.links

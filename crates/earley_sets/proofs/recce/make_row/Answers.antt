@@ -12,7 +12,7 @@ use Rattle.grammar_model.specs.Derives.{Held}
 use Rattle.item_rows.specs.Rows.{ItemRows, shared_at, IsBegunAt}
 use Rattle.earley_sets.specs.Kept.{AreItems, IsRowOf}
 use Rattle.earley_sets.specs.Scanning.{AreReduced, IsKernel}
-use Rattle.earley_sets.specs.Tried.{RisesBy, MakesKernel}
+use Rattle.earley_sets.specs.Tried.{RisesWithin, MakesKernel}
 use Rattle.earley_sets.proofs.Making.{list_moved}
 use Rattle.leo_items.proofs.Adding.{all_differ}
 use Rattle.earley_sets.proofs.Splitting.{kernel_apart, row_made, set_links}
@@ -58,13 +58,13 @@ pub returns-clause-counted : goal.returns-clause-counted
 returns-clause-counted g c =
     on_ok_weaker c.push.result
     (λ p some.
-    subst (λ n. RisesBy (IsLink c.args.flat.now (FlatEdges c.args.flat.now (Held c.args.edges.now)) c.args.top n) (c.args.steps.now + length c.make_kernel.new.memo) (c.find_list.new.steps + length c.args.memo.now)) c.len-earleme.ensures
+    subst (λ n. RisesWithin (IsLink c.args.flat.now (FlatEdges c.args.flat.now (Held c.args.edges.now)) c.args.top n) (c.args.steps.now + length c.make_kernel.new.memo) (c.find_list.new.steps + length c.args.memo.now)) c.len-earleme.ensures
     (set_links c.args.flat.now c.args.edges.now c.args.top c.requires.top c.requires.forward c.args.rows.now.sets c.requires.rows.are c.len-earleme.result
     (subst (AreReduced c.args.flat.now c.args.edges.now c.args.top c.args.rows.now.sets) (sym c.len-earleme.ensures) c.requires.sets)
     c.as_slice-kernel.result.now (subst (IsKernel c.args.flat.now c.args.rows.now.sets c.args.top c.len-earleme.result c.args.edges.now) (sym c.as_slice-kernel.ensures.keys) c.in_ok-make_kernel.ensures.kernel)
     (shared_at c.find_list.new.rows.shared c.in_ok-begun.begun) c.in_ok-begun.ensures.begun
     (c.args.steps.now + length c.make_kernel.new.memo) (c.make_kernel.new.steps + length c.args.memo.now) (c.find_list.new.steps + length c.args.memo.now)
-    (subst (λ (l : List Item). RisesBy (MakesKernel c.args.flat.now c.args.rows.now.sets c.len-earleme.result c.args.edges.now l) (c.args.steps.now + length c.make_kernel.new.memo) (c.make_kernel.new.steps + length c.args.memo.now)) (sym c.as_slice-kernel.ensures.keys)
+    (subst (λ (l : List Item). RisesWithin (MakesKernel c.args.flat.now c.args.rows.now.sets c.len-earleme.result c.args.edges.now l) (c.args.steps.now + length c.make_kernel.new.memo) (c.make_kernel.new.steps + length c.args.memo.now)) (sym c.as_slice-kernel.ensures.keys)
     (c.in_ok-make_kernel.ensures.counted (let e = c.len-earleme.ensures in omega (arith, e, some))))
     (list_moved c.args.flat.now c.as_slice-kernel.result.now (shared_at c.find_list.new.rows.shared c.in_ok-begun.begun) c.make_kernel.new.steps c.find_list.new.steps (length c.args.memo.now) c.in_ok-begun.ensures.tried)))
     c.push.ensures.ok

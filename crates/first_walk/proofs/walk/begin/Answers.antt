@@ -2,7 +2,7 @@ use Rattle.std.proofs.Common.{◌<◌, ◌∷◌, ◌++◌, [], List, sym, ap, �
 use Rattle.grammar_model.specs.Steps.{NulledStep}
 use Rattle.recognizer_model.specs.Flat.{lhs_of}
 use Rattle.bocage.proofs.Whole.{top_is}
-use Rattle.tree_iter.specs.declared.writing.FlatStep.{FlatStep}
+use Rattle.flat_steps.specs.declared.writing.FlatStep.{FlatStep}
 use Rattle.first_walk.specs.Going.{backwards, whole_key_of, whole_step}
 use Rattle.first_walk.proofs.Goings.{empty_begun, whole_begun, empty_ahead, whole_ahead}
 use Rattle.first_walk.proofs.walk.begin.Goals as goal

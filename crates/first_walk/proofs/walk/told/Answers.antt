@@ -5,8 +5,8 @@ use Rattle.grammar_model.specs.Steps.{Step}
 use Rattle.recognizer_model.specs.Flat.{FlatGrammar}
 use Rattle.recognizer_model.specs.FlatForm.{IsFlatOf}
 use Rattle.forest_laws.specs.Written.{steps_written}
-use Rattle.tree_iter.specs.declared.writing.FlatStep.{FlatStep}
-use Rattle.tree_iter.specs.Writing.{flat_step, IsStepOf}
+use Rattle.flat_steps.specs.declared.writing.FlatStep.{FlatStep}
+use Rattle.flat_steps.specs.Writing.{flat_step, IsStepOf}
 use Rattle.first_walk.specs.Going.{backwards}
 use Rattle.first_walk.proofs.Backwards.{map_reverse, turned}
 use Rattle.first_walk.proofs.Goings.{first_told}

@@ -3,7 +3,7 @@ use Rattle.std.specs.Prelude.{slice_get, vec_len}
 use Rattle.tree_iter.specs.declared.walk.Walk.{Walk}
 use Rattle.tree_iter.specs.Goals.{goal_of}
 use Rattle.std.proofs.lemmas.Result.{IfOk-from_err}
-use Rattle.tree_iter.specs.Writing.{flat_step}
+use Rattle.flat_steps.specs.Writing.{flat_step}
 use Rattle.tree_iter.proofs.Passing.{passes_none}
 use Rattle.tree_iter.proofs.LedWalk.{wrote_leads}
 use Rattle.tree_iter.proofs.Walks.{left_within}

@@ -8,7 +8,7 @@ use Rattle.grammar_core.specs.Steps.{step_of}
 use Rattle.forest_laws.specs.Written.{is_list_rule}
 use Rattle.bocage.specs.Readers.{node_at}
 use Rattle.tree_iter.specs.Leads.{IsToldAt}
-use Rattle.tree_iter.proofs.GoalLemmas.{index_is}
+use Rattle.flat_steps.proofs.Linked.{index_is}
 use Rattle.tree_iter.proofs.LedWalk.{some_same}
 use Rattle.tree_iter.proofs.jump.Guide.one_of.Goals as goal
 

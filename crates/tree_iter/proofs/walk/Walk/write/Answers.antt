@@ -2,7 +2,7 @@ use Rattle.std.proofs.Common.{refl, subst, sym}
 use Rattle.forest_laws.specs.Goals.{Write}
 use Rattle.tree_iter.specs.declared.walk.Walk.{Walk}
 use Rattle.tree_iter.specs.Walk.{Wrote}
-use Rattle.tree_iter.specs.Writing.{IsStepOf, flat_step}
+use Rattle.flat_steps.specs.Writing.{IsStepOf, flat_step}
 use Rattle.tree_iter.proofs.Walks.{first_of, step_ready, done_on, wrote_one, wrote_longer, write_steps, steps_kept}
 use Rattle.tree_iter.proofs.Choosing.{first_on, wrote_on}
 use Rattle.tree_iter.proofs.Further.{write_further, further_kept}
