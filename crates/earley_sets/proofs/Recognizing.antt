@@ -11,7 +11,7 @@ use Rattle.recognizer_model.specs.declared.Item.{Item}
 use Rattle.recognizer_model.specs.declared.flat.FlatSymbol.TheVariants.{Terminal}
 use Rattle.std.proofs.lemmas.List.Elements.{Contains-append_left, Contains-push_cases}
 use Rattle.std.proofs.lemmas.Option.{slice_get-get_or}
-use Rattle.finite_sets.proofs.Lists.{Contains-none, got_at}
+use Rattle.finite_sets.proofs.Lists.{Contains-none}
 use Rattle.grammar_core.specs.declared.edges.EdgeRefusal.{EdgeRefusal}
 use Rattle.grammar_core.specs.declared.edges.EdgeRefusal.TheVariants.{Duplicate, BadLength}
 use Rattle.grammar_model.specs.Grammar.{slot_of}
@@ -34,7 +34,8 @@ use Rattle.recognizer_model.specs.Counts.{IsListOf}
 use Rattle.recognizer_model.specs.Links.{Link, IsLink}
 use Rattle.recognizer_model.specs.Invariant.{IsFlat}
 use Rattle.item_rows.specs.Rows.{ItemRows, row_at}
-use Rattle.earley_sets.specs.Kept.{AreRows, IsRowOf, IsAwaited, IsAwaitedTerminal}
+use Rattle.earley_sets.specs.Kept.{AreRows, IsRowOf, IsAwaited}
+use Rattle.item_rows.specs.Marks.{IsAwaitedTerminal}
 use Rattle.recognizer_model.proofs.Leo.{reduced_inside, keeps_waiting}
 use Rattle.recognizer_model.proofs.Over.{AgreeTo, agree_back, same_leo, same_reduced, top_kept}
 use Rattle.recognizer_model.specs.declared.Pair.{Pair}
@@ -236,10 +237,10 @@ module _ (g : FlatGrammar) (start : ℕ) (edges : List HeldEdge) (rows : List (L
           let (item, i, a) = law.0 (subst (λ T. T) (sym same) (subst (λ z. IsAcceptable (grammar_view g) (FlatEdges g (Held edges)) (lhs_of g (slice_index g.tops start)) z (length rows - 1)) e acc)) in
           (item, (waits_in_set (length rows - 1) x item last_below a).1 i, a)
 
-  pub listed_expected : (t : ℕ) → IsAwaitedTerminal g (row_at rows (length rows - 1)) (length g.symbols) t ↔ IsExpected (recognizer g start edges rows notes) t
+  pub listed_expected : (t : ℕ) → IsAwaitedTerminal g (row_at rows (length rows - 1)) t ↔ IsExpected (recognizer g start edges rows notes) t
   listed_expected t = (
-    λ (x, lt, is, a). (awaited_expected x t is).0 a,
-    λ (x, is, acc). (x, (got_at g.symbols x (Terminal t) (Terminal t) (sym is)).0, is, (awaited_expected x t is).1 (x, is, acc)),
+    λ (item, h, (x, w, is)). (awaited_expected x t is).0 (item, h, w),
+    λ (x, is, acc). (let (item, h, w) = (awaited_expected x t is).1 (x, is, acc) in (item, h, (x, w, is))),
   )
 
   whole : Item

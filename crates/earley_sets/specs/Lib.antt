@@ -1,4 +1,5 @@
 pub mod Kept
+pub mod Expected
 pub mod Closing
 pub mod Begun
 pub mod Scanning

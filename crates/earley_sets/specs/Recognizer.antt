@@ -18,6 +18,7 @@ use Rattle.recognizer_model.specs.Leo.{InReduced}
 use Rattle.recognizer_model.specs.Links as model
 use Rattle.recognizer_model.specs.Counts.{IsListOf}
 use Rattle.item_rows.specs.Kept.{AreRows}
+use Rattle.item_rows.specs.Marks.{IsAwaitedTerminal}
 use Rattle.leo_items.specs.Memo.{Note}
 use Rattle.leo_items.specs.ByRows.{IsMemo}
 
@@ -57,6 +58,10 @@ new_edge r t n = record { symbol = t; from = earleme_of r; to = earleme_of r + n
 -- the terminal is acceptable at the last place
 abbrev pub IsExpected : Recognizer → ℕ → Type 0
 IsExpected r t = (x : ℕ) × (slice_get r.flat.symbols x ≡ Some (Terminal t)) × IsAcceptable (grammar_view r.flat) (edges_of r) (lhs_of r.flat (top_of r)) x (earleme_of r)
+
+-- an item of the set of the place waits for the terminal
+abbrev pub WaitsAt : Recognizer → (place t : ℕ) → Type 0
+WaitsAt r place t = IsAwaitedTerminal r.flat (set_at r place) t
 
 -- a tree of the start spans the edges up to the last place
 abbrev pub HasTree : Recognizer → Type 0

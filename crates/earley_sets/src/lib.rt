@@ -4,13 +4,14 @@
 mod awaited;
 mod begun;
 mod close;
+mod expected;
 mod follow;
 mod lists;
 mod recce;
 
 ghost use Rattle.earley_sets.specs.Laws.{ExpectedAreAcceptable, TreesAreDerivations, TriesAreFew};
 
-pub use recce::{AlternativeRefusal, Recce, SetView};
+pub use recce::{Alike, AlternativeRefusal, Recce, SetView};
 use recognizer_model::{acceptable_are_flat, flat_grammars_are_flat_forms};
 
 /// Over the flat grammar of a checked one, the expected terminals are those that are acceptable to the checked grammar.

@@ -18,16 +18,14 @@ ghost use Rattle.earley_sets.specs.Begun.{AreLists};
 ghost use Rattle.earley_sets.specs.Scanning.{GoForward, AreReduced, AddsRow};
 ghost use Rattle.earley_sets.specs.Tried.{RisesWithinLinks};
 ghost use Rattle.earley_sets.specs.Below.{StepsTo, SomeStepsTwice, LeadsUp, IsBottom, IsBottomOf, StandsBelowOf};
-ghost use Rattle.earley_sets.specs.Recognizer.{Recognizer, earleme_of, set_at, edges_of, top_of, made, new_edge, IsExpected, HasTree, IsRecognizer};
+ghost use Rattle.earley_sets.specs.Recognizer.{Recognizer, earleme_of, set_at, edges_of, top_of, made, new_edge, IsExpected, WaitsAt, HasTree, IsRecognizer};
 ghost use Rattle.earley_sets.specs.declared.recce.AlternativeRefusal.TheVariants.{Unexpected, Duplicate, BadLength};
 
 use crate::close::{Work, make_kernel};
+use crate::expected::{Expected, copy_of, expect_row, forget, has_terminal, new_expected, place_alike, terminals};
 use crate::lists::{Lists, find_list, new_lists};
 use grammar_core::{EdgeRefusal, Flat, SymbolId, TokenEdges};
-use item_rows::{
-    Heads, Marks, Row, Rows, ascending, is_marked, list_heads, mark_row, new_marks, symbol_of,
-    take_marks,
-};
+use item_rows::{Heads, Row, Rows, list_heads, symbol_of};
 use leo_items::{Memo, list_below, list_hidden, some_steps_twice, top_above};
 use recognizer_model::Item;
 use slif_base::Steps;
@@ -208,7 +206,7 @@ pub struct Recce<'g> {
     rows: Rows<'g>,
     lists: Lists,
     memo: Memo,
-    marks: Marks,
+    expected: Expected,
     work: Work,
 }
 
@@ -224,7 +222,7 @@ impl<'g> Drop for Recce<'g> {
             rows: _,
             lists: _,
             memo: _,
-            marks: _,
+            expected: _,
             work: _,
         } = self;
     }
@@ -236,7 +234,7 @@ impl<'g> Model for Recce<'g> {
     ghost use Rattle.earley_sets.specs.Recognizer.{Recognizer, IsKept};
     ghost use Rattle.item_rows.specs.Heads.{AreHeads};
     ghost use Rattle.earley_sets.specs.Begun.{AreLists};
-    ghost use Rattle.earley_sets.specs.Kept.{AreLastMarks};
+    ghost use Rattle.earley_sets.specs.Expected.{KnowsLast};
 
     ghost Value = { Recognizer };
 
@@ -256,7 +254,15 @@ impl<'g> Model for Recce<'g> {
       noted = pairs_of r.memo;
     }) r.top r.memo × AreHeads r.flat.now r.heads ×
         (r.rows.flat ≡ r.flat.now) × AreLists r.flat.now r.rows.shared r.lists.numbers.entries ×
-        AreLastMarks r.flat.now r.rows.sets r.marks };
+        KnowsLast r.flat.now r.rows.sets r.expected };
+}
+
+/// A number for the shape of the last set, and a place whose set waits for the same terminals. The number is a hint: it is small, and in
+/// practice one for each shape, so that a caller may index a table by it; no clause speaks of it.
+#[derive(Clone, Copy)]
+pub struct Alike {
+    pub kind: u32,
+    pub place: u32,
 }
 
 /// Items of a set: those that begin at an earlier place, and then the others; each part by the symbol after the dot, whole items last, then by rule, dot and origin.
@@ -308,11 +314,11 @@ impl<'g> Recce<'g> {
             (length r.sets ≡ 1) × (r.noted ≡ [])) }
     {
         let top = flat.top(start);
-        let mut marks = new_marks(alloc, flat)?;
+        let mut expected = new_expected(alloc, flat)?;
         let heads = list_heads(alloc, flat)?;
         let mut lists = new_lists(alloc);
         let rows = first_rows(alloc, flat, &heads, top, &mut lists)?;
-        mark_row(flat, &rows, 0, &mut marks);
+        expect_row(flat, &rows, 0, &mut expected);
         let edges = TokenEdges::new(alloc);
         let memo = Memo::new(alloc);
         Ok(Recce {
@@ -324,7 +330,7 @@ impl<'g> Recce<'g> {
             rows,
             lists,
             memo,
-            marks,
+            expected,
             work: Work::new(alloc),
         })
     }
@@ -384,7 +390,7 @@ impl<'g> Recce<'g> {
             steps,
         )?;
         let last = self.rows.len() - 1;
-        mark_row(self.flat, &self.rows, last, &mut self.marks);
+        expect_row(self.flat, &self.rows, last, &mut self.expected);
         Ok(())
     }
 
@@ -401,11 +407,7 @@ impl<'g> Recce<'g> {
     pub fn is_expected(&self, t: SymbolId) -> bool
         ensures { IsTrue result ↔ IsExpected self.now t }
     {
-        let mark = self.rows.len() as u32;
-        match symbol_of(self.flat, &self.heads, t) {
-            Some(symbol) => is_marked(self.flat, &self.marks, mark, symbol, t),
-            None => false,
-        }
+        has_terminal(terminals(&self.expected), t)
     }
 
     /// The terminals that are acceptable at the place, each once.
@@ -413,7 +415,7 @@ impl<'g> Recce<'g> {
         ensures once { AllPairs (λ s t. s ≢ t) result.now }
         ensures exact { (t : ℕ) → Contains result.now t ↔ IsExpected self.now t }
     {
-        &self.marks.listed
+        terminals(&self.expected)
     }
 
     /// The terminals that are acceptable at the place, in the order of their numbers.
@@ -421,7 +423,18 @@ impl<'g> Recce<'g> {
         ensures order { IfOk result (λ ts. AllPairs (λ s t. s < t) ts.items) }
         ensures exact { IfOk result (λ ts. (t : ℕ) → Contains ts.items t ↔ IsExpected self.now t) }
     {
-        ascending(alloc, &self.marks.listed)
+        copy_of(alloc, terminals(&self.expected))
+    }
+
+    /// The first place so far, as far as it is noted, whose set waits for the same terminals as the last one.
+    pub fn alike(&self) -> Alike
+        ensures place { result.place ≤ earleme_of self.now }
+        ensures alike { (t : ℕ) → WaitsAt self.now result.place t ↔ IsExpected self.now t }
+    {
+        let last = self.rows.len() - 1;
+        let place = place_alike(&self.expected, last as u32);
+        let kind = self.rows.kind(last);
+        Alike { kind, place }
     }
 
     /// Whether a tree of the start spans the edges up to the place.
@@ -568,8 +581,8 @@ impl<'g> Recce<'g> {
         self.rows.keep_first();
         self.memo.clear();
         self.edges.clear();
-        take_marks(&mut self.marks);
-        mark_row(self.flat, &self.rows, 0, &mut self.marks);
+        forget(&mut self.expected);
+        expect_row(self.flat, &self.rows, 0, &mut self.expected);
     }
 
     /// Takes a terminal that begins at the place and is so many places long.

@@ -10,13 +10,14 @@ use Rattle.std.proofs.lemmas.List.Sums.{sum_by-cons}
 use Rattle.recognizer_model.specs.declared.Item.{Item}
 use Rattle.recognizer_model.specs.Flat.{FlatGrammar}
 use Rattle.recognizer_model.specs.Counts.{IsListOf}
-use Rattle.item_rows.specs.Rows.{ItemRows, row_at, shared_at, with_row, IsBegunAt}
+use Rattle.item_rows.specs.Rows.{ItemRows, row_at, shared_at, with_row, IsBegunAt, AreAlike}
 use Rattle.jagged.specs.Rows.{row_at as list_at}
 use Rattle.item_rows.specs.Dotted.{dotted_at, unpacked, begun_at, DifferInDots, IsPackedRow, AreDotted, row_items, IsRowOfParts}
 use Rattle.item_rows.specs.Held.{shared_by, rows_from, lists_from, AreHeld}
 use Rattle.kernels.specs.Shapes.{Kernel, no_kernel, kernel_at}
+use Rattle.kernels.specs.Slots.{dotted_of}
 use Rattle.kernels.proofs.Numbers.{map_length, map_has, index_any}
-use Rattle.item_rows.proofs.Joined.{once_begun, begun_told, join_lists}
+use Rattle.item_rows.proofs.Joined.{once_begun, begun_told, join_lists, rows_alike}
 
 module _ {A : Type 0} (xs : List A) (x d : A) where
   old_at : (k : ℕ) → k < length xs → get_or (xs ++ x ∷ []) k d ≡ get_or xs k d
@@ -121,6 +122,13 @@ module _ (g : FlatGrammar) (rules : List Item) (lists : List (List ℕ)) (kernel
 
   pub list_seen : (j : ℕ) → j < length r.shared → map (dotted_at rules) (list_at lists j) ≡ shared_at r.shared j
   list_seen j lt = sym (get_or-map (map (dotted_at rules)) lists j [] [] (in_lists j lt)) ∙ ap (λ s. shared_at s j) same_shared
+
+  pub alike_seen : (i j : ℕ) → i < length r.sets → j < length r.sets → (kernel_at kernels i).begun ≡ (kernel_at kernels j).begun → dotted_of (kernel_at kernels i).packed ≡ dotted_of (kernel_at kernels j).packed →
+      AreAlike (row_at r.sets i) (row_at r.sets j)
+  alike_seen i j li lj begun dotted =
+      subst (λ (l : List Item). AreAlike l (row_at r.sets j)) (row_seen i li)
+      (subst (λ (l : List Item). AreAlike (row_of rules lists i (kernel_at kernels i)) l) (row_seen j lj)
+      (rows_alike rules i j (kernel_at kernels i).packed (kernel_at kernels j).packed (shared_by lists (kernel_at kernels i)) (shared_by lists (kernel_at kernels j)) dotted (ap (list_at lists) begun)))
 
   module _ (count : ℕ) (held : AreHeld rules lists kernels count) where
     pub fits : (j : ℕ) → j < length r.sets → j < 2 ^ 32

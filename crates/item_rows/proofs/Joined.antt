@@ -10,8 +10,8 @@ use Rattle.std.proofs.lemmas.Option.{slice_get-get_or}
 use Rattle.recognizer_model.specs.declared.Item.{Item}
 use Rattle.recognizer_model.specs.Counts.{IsListOf}
 use Rattle.item_rows.specs.declared.dotted.Span.{Span}
-use Rattle.kernels.specs.Slots.{Rises}
-use Rattle.item_rows.specs.Rows.{IsBegunAt}
+use Rattle.kernels.specs.Slots.{Rises, dotted_of}
+use Rattle.item_rows.specs.Rows.{IsBegunAt, HasDotted, AreAlike}
 use Rattle.item_rows.specs.Dotted.{dotted_at, unpacked, begun_at, row_items, IsPacked, IsPackedRow, AreDotted, IsRowOfParts, DifferInDots, IsSpanOf, AreWithin}
 use Rattle.kernels.proofs.Numbers.{map_length, map_has, map_from, index_any}
 use Rattle.item_rows.proofs.Packing.{part_of_kind, packed_there, packed_absent}
@@ -241,3 +241,34 @@ module _ (rules packed_items : List Item) (packed : List ℕ) (is : IsPackedRow 
           let e = one n (in_packed n (0, omega arith, refl)) in
           let rest = go part (λ m (k, lt, at). in_packed m (suc k, omega arith, at)) in
           λ i. e i ∷ rest i
+
+-- the dotted rules of a row of two parts, wherever its items begin
+module _ (rules : List Item) where
+  -- a number in one of two lists is that of the dotted rule
+  abbrev HasNumber : (numbers begun : List ℕ) (rule dot : ℕ) → Type 0
+  HasNumber numbers begun rule dot = (k : ℕ) × (Contains numbers k ⊎ Contains begun k) × ((dotted_at rules k).rule ≡ rule) × ((dotted_at rules k).dot ≡ dot)
+
+  has_number : (earleme : ℕ) (packed begun : List ℕ) (rule dot : ℕ) → HasDotted (row_items rules earleme packed begun) rule dot → HasNumber (dotted_of packed) begun rule dot
+  has_number earleme packed begun rule dot (item, h, r, d) = elim (Contains-append_cases (map (unpacked rules) packed) (map (begun_at rules earleme) begun) item h) [
+    | inl a ↦ (
+        let (n, hn, e) = map_from (unpacked rules) packed item a in
+        (n / 4294967296, inl (map_has (λ m. m / 4294967296) packed n hn), ap (λ (z : Item). z.rule) e ∙ r, ap (λ (z : Item). z.dot) e ∙ d))
+    | inr b ↦ (
+        let (k, hk, e) = map_from (begun_at rules earleme) begun item b in
+        (k, inr hk, ap (λ (z : Item). z.rule) e ∙ r, ap (λ (z : Item). z.dot) e ∙ d))
+  ]
+
+  from_number : (earleme : ℕ) (packed begun : List ℕ) (rule dot : ℕ) → HasNumber (dotted_of packed) begun rule dot → HasDotted (row_items rules earleme packed begun) rule dot
+  from_number earleme packed begun rule dot (k, s, r, d) = elim s [
+    | inl a ↦ (
+        let (n, hn, e) = map_from (λ m. m / 4294967296) packed k a in
+        (unpacked rules n, Contains-append_left (map (unpacked rules) packed) (map (begun_at rules earleme) begun) (unpacked rules n) (map_has (unpacked rules) packed n hn),
+        ap (λ m. (dotted_at rules m).rule) e ∙ r, ap (λ m. (dotted_at rules m).dot) e ∙ d))
+    | inr b ↦ (begun_at rules earleme k, Contains-append_right (map (unpacked rules) packed) (map (begun_at rules earleme) begun) (begun_at rules earleme k) (map_has (begun_at rules earleme) begun k b), r, d)
+  ]
+
+  pub rows_alike : (i j : ℕ) (packed others begun shared : List ℕ) → dotted_of packed ≡ dotted_of others → begun ≡ shared → AreAlike (row_items rules i packed begun) (row_items rules j others shared)
+  rows_alike i j packed others begun shared same list rule dot = (
+    λ h. from_number j others shared rule dot (subst (λ l. HasNumber l shared rule dot) same (subst (λ l. HasNumber (dotted_of packed) l rule dot) list (has_number i packed begun rule dot h))),
+    λ h. from_number i packed begun rule dot (subst (λ l. HasNumber l begun rule dot) (sym same) (subst (λ l. HasNumber (dotted_of others) l rule dot) (sym list) (has_number j others shared rule dot h))),
+  )

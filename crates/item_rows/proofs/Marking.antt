@@ -17,9 +17,9 @@ use Rattle.recognizer_model.specs.Items.{after}
 use Rattle.recognizer_model.specs.Invariant.{IsFlat, IsArranged}
 use Rattle.recognizer_model.specs.Counts.{IsListOf}
 use Rattle.item_rows.specs.Order.{or_end, symbol_or_end}
-use Rattle.item_rows.specs.Kept.{StandsForTerminal, WaitsForTerminal, IsAwaitedTerminal}
+use Rattle.item_rows.specs.Kept.{StandsForTerminal, WaitsForTerminal}
 use Rattle.item_rows.specs.Dotted.{no_item, dotted_at, IsTerminalSpan}
-use Rattle.item_rows.specs.Marks.{WaitsFor, AreMarked}
+use Rattle.item_rows.specs.Marks.{WaitsFor, IsAwaitedTerminal, AreMarked}
 use Rattle.item_rows.proofs.Listed.{within}
 
 module _ (g : FlatGrammar) (arranged : IsArranged g) where
@@ -56,14 +56,14 @@ module _ (g : FlatGrammar) (count : ℕ) (few : count < 4294967296) (exact : (x 
 
 -- what the items wait for that wait for terminals, the row waits for
 pub awaited_of : (g : FlatGrammar) (row items : List Item) → IsListOf (λ item. Contains row item × WaitsForTerminal g item) items → (t : ℕ) →
-    ((item : Item) × Contains items item × WaitsFor g item t) ↔ IsAwaitedTerminal g row (length g.symbols) t
+    IsAwaitedTerminal g items t ↔ IsAwaitedTerminal g row t
 awaited_of g row items is t = (
-  λ (item, h, (x, w, s)). (x, within g.symbols x (Terminal t) s, s, (item, ((is.exact item).0 h).0, w)),
-  λ (x, lt, s, (item, h, w)). (item, (is.exact item).1 (h, (x, w, (t, s))), (x, w, s)),
+  λ (item, h, w). (item, ((is.exact item).0 h).0, w),
+  λ (item, h, (x, w, s)). (item, (is.exact item).1 (h, (x, w, (t, s))), (x, w, s)),
 )
 
 -- what is got of a list with one element set
-got_set : {A : Type 0} (xs : List A) (k : ℕ) (x : A) (j : ℕ) (y : A) → slice_get (slice_set xs k x) j ≡ Some y → ((j ≢ k) × (slice_get xs j ≡ Some y)) ⊎ ((j ≡ k) × (y ≡ x))
+pub got_set : {A : Type 0} (xs : List A) (k : ℕ) (x : A) (j : ℕ) (y : A) → slice_get (slice_set xs k x) j ≡ Some y → ((j ≢ k) × (slice_get xs j ≡ Some y)) ⊎ ((j ≡ k) × (y ≡ x))
 got_set [] k x j y e = absurd (cc)
 got_set (z ∷ zs) zero x zero y e = inr (refl, cc)
 got_set (z ∷ zs) zero x (suc j) y e = inl ((λ n. absurd (omega (arith, n))), e)
@@ -79,7 +79,7 @@ terminal_or (Top k) = 0
 same_terminal : (s t : ℕ) → Some (Terminal s) ≡ Some (Terminal t) → s ≡ t
 same_terminal s t e = cc
 
-got_contains : {A : Type 0} (xs : List A) (k : ℕ) (x : A) → slice_get xs k ≡ Some x → Contains xs x
+pub got_contains : {A : Type 0} (xs : List A) (k : ℕ) (x : A) → slice_get xs k ≡ Some x → Contains xs x
 got_contains xs k x e = let (lt, at) = get_index xs k x x e in (k, lt, at)
 
 pub listed_more : (old new : List ℕ) (t : ℕ) → new ≡ old ++ t ∷ [] → (s : ℕ) → Contains new s ↔ (Contains old s ⊎ (t ≡ s))

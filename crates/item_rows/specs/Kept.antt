@@ -1,5 +1,5 @@
 -- Rows of the items of a grammar, one for each place so far.
-use Rattle.std.specs.Prelude.{◌≡◌, ℕ, ◌<◌, ◌≤◌, List, length, Some, slice_get, Contains}
+use Rattle.std.specs.Prelude.{◌≡◌, ℕ, ◌≤◌, List, length, Some, slice_get, Contains}
 use Rattle.recognizer_model.specs.declared.Item.{Item}
 use Rattle.recognizer_model.specs.declared.flat.FlatSymbol.TheVariants.{Terminal}
 use Rattle.recognizer_model.specs.Flat.{FlatGrammar, IsRule, rhs_of}
@@ -23,10 +23,6 @@ StandsForTerminal g x = (t : ℕ) × (slice_get g.symbols x ≡ Some (Terminal t
 -- an item waits for a terminal
 abbrev pub WaitsForTerminal : FlatGrammar → Item → Type 0
 WaitsForTerminal g item = (x : ℕ) × (after g item ≡ Some x) × StandsForTerminal g x
-
--- an item waits for the terminal, by one of the first symbols
-abbrev pub IsAwaitedTerminal : FlatGrammar → List Item → (symbols t : ℕ) → Type 0
-IsAwaitedTerminal g row n t = (x : ℕ) × (x < n) × (slice_get g.symbols x ≡ Some (Terminal t)) × IsAwaited g row x
 
 -- the row of a place
 pub record IsRowOf (g : FlatGrammar) (earleme : ℕ) (row : List Item) : Type 0 where

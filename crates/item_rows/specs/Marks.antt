@@ -1,16 +1,19 @@
 -- Marks of the terminals that a row waits for, its postdot terminals, and their list.
-use Rattle.std.specs.Prelude.{◌≡◌, ◌≢◌, ℕ, ◌+◌, ◌≤◌, ◌↔◌, List, length, Some, slice_get, vec_capacity, Contains}
+use Rattle.std.specs.Prelude.{◌≡◌, ◌≢◌, ℕ, ◌<◌, ◌≤◌, ◌↔◌, List, length, Some, slice_get, vec_capacity, Contains}
 use Rattle.std.specs.List.{AllPairs}
 use Rattle.recognizer_model.specs.declared.flat.FlatSymbol.TheVariants.{Terminal}
 use Rattle.recognizer_model.specs.declared.Item.{Item}
 use Rattle.recognizer_model.specs.Flat.{FlatGrammar}
 use Rattle.recognizer_model.specs.Items.{after}
-use Rattle.item_rows.specs.Kept.{IsAwaitedTerminal}
 use Rattle.item_rows.specs.declared.marks.Marks.{Marks}
 
 -- an item waits for the terminal
 abbrev pub WaitsFor : FlatGrammar → Item → (t : ℕ) → Type 0
 WaitsFor g item t = (x : ℕ) × (after g item ≡ Some x) × (slice_get g.symbols x ≡ Some (Terminal t))
+
+-- some item of the row waits for the terminal
+abbrev pub IsAwaitedTerminal : FlatGrammar → List Item → (t : ℕ) → Type 0
+IsAwaitedTerminal g row t = (item : Item) × Contains row item × WaitsFor g item t
 
 abbrev pub AreAtMost : (bound : ℕ) → (marks : List ℕ) → Type 0
 AreAtMost bound marks = (x m : ℕ) → slice_get marks x ≡ Some m → m ≤ bound
@@ -27,7 +30,7 @@ pub record AreMarked (g : FlatGrammar) (mark : ℕ) (marks listed : List ℕ) : 
   pub known : (t : ℕ) → Contains listed t → (x : ℕ) × (slice_get g.symbols x ≡ Some (Terminal t))
   pub once : AllPairs (λ s t. s ≢ t) listed
 
--- just the terminals that the row waits for are listed, and marked as its own
-pub record AreMarksOf (g : FlatGrammar) (row : List Item) (earleme : ℕ) (marks listed : List ℕ) : Type 0 where
-  pub marked : AreMarked g (earleme + 1) marks listed
-  pub exact : (t : ℕ) → Contains listed t ↔ IsAwaitedTerminal g row (length g.symbols) t
+-- just the terminals that the row waits for, in order
+pub record AreTerminalsOf (g : FlatGrammar) (row : List Item) (terminals : List ℕ) : Type 0 where
+  pub order : AllPairs (λ s t. s < t) terminals
+  pub exact : (t : ℕ) → Contains terminals t ↔ IsAwaitedTerminal g row t

@@ -1,5 +1,5 @@
 -- Rows that are kept end to end, told apart by the places where each ends; and lists that several rows share.
-use Rattle.std.specs.Prelude.{◌≡◌, ℕ, ◌++◌, List, [], ◌∷◌, slice_index_or, Contains}
+use Rattle.std.specs.Prelude.{◌≡◌, ℕ, ◌++◌, ◌↔◌, List, [], ◌∷◌, slice_index_or, Contains}
 use Rattle.recognizer_model.specs.declared.Item.{Item}
 use Rattle.recognizer_model.specs.Flat.{FlatGrammar}
 
@@ -18,6 +18,14 @@ shared_at lists i = slice_index_or lists i []
 -- an item of the list, begun at the place
 abbrev pub IsBegunAt : List Item → ℕ → Item → Type 0
 IsBegunAt list earleme item = (item.origin ≡ earleme) × Contains list (record item { origin = 0 })
+
+-- an item of the dotted rule stands in the row
+abbrev pub HasDotted : List Item → (rule dot : ℕ) → Type 0
+HasDotted row rule dot = (item : Item) × Contains row item × (item.rule ≡ rule) × (item.dot ≡ dot)
+
+-- the rows have the same dotted rules
+abbrev pub AreAlike : (row other : List Item) → Type 0
+AreAlike row other = (rule dot : ℕ) → HasDotted row rule dot ↔ HasDotted other rule dot
 
 -- one row more
 abbrev pub with_row : ItemRows → List Item → ItemRows

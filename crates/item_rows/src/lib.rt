@@ -3,15 +3,13 @@
 #![tactic(auto)]
 
 mod dotted;
-mod expected;
 mod heads;
 mod marks;
 mod order;
 mod packed;
 mod rows;
 
-pub use expected::ascending;
 pub use heads::{Heads, Rules, list_heads, rules_of, symbol_of};
-pub use marks::{Marks, is_marked, mark_row, new_marks, take_marks};
+pub use marks::{Marks, mark_row, new_marks, take_marks};
 pub use packed::Row;
 pub use rows::Rows;

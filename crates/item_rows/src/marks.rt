@@ -1,9 +1,10 @@
 //! Marks of the terminals that a row waits for, its postdot terminals, so that none has to be looked for, and their list.
-ghost use Rattle.std.specs.Prelude.{◌≡◌, ◌≢◌, ℕ, ◌+◌, ◌<◌, ◌≤◌, ◌↔◌, ◌⊎◌, length, slice_get, Some, IsTrue, IfOk, IfSome, IsNone, Contains};
+ghost use Rattle.std.specs.Prelude.{◌≡◌, ◌≢◌, ℕ, ◌+◌, ◌<◌, ◌≤◌, ◌↔◌, ◌⊎◌, length, slice_get, vec_capacity, Some, IfOk, IfSome, IsNone, Contains};
+ghost use Rattle.std.specs.List.{AllPairs};
 ghost use Rattle.recognizer_model.specs.declared.Item.{Item as TheItem};
 ghost use Rattle.recognizer_model.specs.declared.flat.FlatSymbol.TheVariants.{Terminal};
 ghost use Rattle.item_rows.specs.Rows.{row_at};
-ghost use Rattle.item_rows.specs.Marks.{WaitsFor, HasRoom, AreAtMost, AreMarked, AreMarksOf};
+ghost use Rattle.item_rows.specs.Marks.{WaitsFor, HasRoom, AreAtMost, AreMarked, AreTerminalsOf};
 
 use crate::packed::Row;
 use crate::rows::Rows;
@@ -111,7 +112,17 @@ fn mark_items(flat: &Flat, items: &Row<'_>, mark: u32, marks: &mut Marks)
     }
 }
 
-/// Marks the terminals that a row waits for as its own, where no row after it has marked any, and lists them in place of those of the row before.
+// Puts different terminals in order.
+fn sort(terminals: &mut Vec<SymbolId>)
+    requires { AllPairs (λ s t. s ≢ t) terminals.old.items }
+    ensures order { AllPairs (λ s t. s < t) terminals.new.items }
+    ensures same { (t : ℕ) → Contains terminals.new.items t ↔ Contains terminals.old.items t }
+    ensures capacity { vec_capacity terminals.new ≡ vec_capacity terminals.old }
+{
+    terminals.sort_unstable();
+}
+
+/// Lists the terminals that a row waits for in order, in place of those of the row that was marked before, which does not stand after this one.
 pub fn mark_row(flat: &Flat, rows: &Rows<'_>, j: usize, marks: &mut Marks)
     requires flat { rows.now.flat ≡ flat.now }
     requires place { j < length rows.now.sets }
@@ -119,19 +130,10 @@ pub fn mark_row(flat: &Flat, rows: &Rows<'_>, j: usize, marks: &mut Marks)
     requires room { HasRoom flat.now marks.old }
     requires older { AreAtMost j marks.old.rows.items }
     ensures room { HasRoom flat.now marks.new }
-    ensures marks { AreMarksOf flat.now (row_at rows.now.sets j) j marks.new.rows.items
-        marks.new.listed.items }
+    ensures most { AreAtMost (j + 1) marks.new.rows.items }
+    ensures listed { AreTerminalsOf flat.now (row_at rows.now.sets j) marks.new.listed.items }
 {
     let items = rows.scanned(j);
     mark_items(flat, &items, j as u32 + 1, marks);
-}
-
-/// Whether the row that was marked last waits for the terminal of a symbol.
-pub fn is_marked(flat: &Flat, marks: &Marks, mark: u32, symbol: u32, t: SymbolId) -> bool
-    requires symbol { slice_get flat.now.symbols symbol ≡ Some (Terminal t) }
-    requires room { HasRoom flat.now marks.now }
-    requires marked { AreMarked flat.now mark marks.now.rows.items marks.now.listed.items }
-    ensures { IsTrue result ↔ Contains marks.now.listed.items t }
-{
-    marks.rows[symbol as usize] == mark
+    sort(&mut marks.listed);
 }

@@ -4,7 +4,7 @@ ghost use Rattle.std.specs.List.{AllPairs};
 ghost use Rattle.recognizer_model.specs.declared.Item.{Item as TheItem};
 ghost use Rattle.recognizer_model.specs.Counts.{IsListOf};
 ghost use Rattle.recognizer_model.specs.Items.{after, IsWhole};
-ghost use Rattle.item_rows.specs.Rows.{row_at, shared_at, with_row, IsBegunAt};
+ghost use Rattle.item_rows.specs.Rows.{row_at, shared_at, with_row, IsBegunAt, AreAlike};
 ghost use Rattle.item_rows.specs.Kept.{AreItems, IsAwaited, WaitsForTerminal};
 
 use crate::dotted::DottedRules;
@@ -144,6 +144,22 @@ impl<'g> Rows<'g> {
         let kernel = self.kernels.kernel(j);
         let begun = self.lists.row(kernel.begun as usize);
         contains(&self.dotted, kernel, begun, j as u32, item)
+    }
+
+    /// The number of a row's shape, of which no clause tells more.
+    pub fn kind(&self, j: usize) -> u32
+        requires { j < length self.now.sets }
+    {
+        self.kernels.kind(j)
+    }
+
+    /// Whether two rows have one shape. Then they have the same dotted rules.
+    pub fn is_alike(&self, i: usize, j: usize) -> bool
+        requires first { i < length self.now.sets }
+        requires second { j < length self.now.sets }
+        ensures { IsTrue result → AreAlike (row_at self.now.sets i) (row_at self.now.sets j) }
+    {
+        self.kernels.is_alike(i, j)
     }
 
     /// Keeps the first row alone, and the lists that rows share.

@@ -1,6 +1,6 @@
 -- Kernels by their shapes.
 use Rattle.std.proofs.Common.{◌≡◌, ℕ, zero, suc, ◌<◌, ◌++◌, List, [], ◌∷◌, length, Bool, true, false, nat_eq, if◌then◌else◌, Some, slice_get, refl, sym, ◌∙◌, ap, subst, arith}
-use Rattle.std.specs.Prelude.{slice_index_or}
+use Rattle.std.specs.Prelude.{slice_index_or, IsTrue}
 use Rattle.std.specs.List.{position, list_any}
 use Rattle.std.specs.Cmp.Lexicographic.{pointwise}
 use Rattle.std.proofs.lemmas.Bool.{eqb-true, and_parts}
@@ -13,7 +13,8 @@ use Rattle.finite_sets.proofs.Lists.{get_left, get_index}
 use Rattle.jagged.specs.Rows.{row_at as list_at}
 use Rattle.kernels.specs.declared.shapes.Shape.{Shape}
 use Rattle.kernels.specs.contracts.shapes.ShapePartialEq.TheImpl as derived
-use Rattle.kernels.specs.Slots.{placed_all, AreSlotted}
+use Rattle.kernels.specs.Slots.{placed_all, dotted_of, AreSlotted}
+use Rattle.kernels.proofs.Slotting.{dotted_placed}
 use Rattle.kernels.specs.Shapes.{Kernel, kernel_at, kernel_of, kernels_of, IsShaped, AreShaped, IsShapeAt}
 
 -- shapes that are the same
@@ -143,3 +144,43 @@ module _ (shapes : List Shape) (kind : ℕ) (row : List ℕ) (shape : Shape) (is
     kernels_pushed [] (o ∷ rows) are = absurd are
     kernels_pushed (k ∷ kinds) [] are = absurd are
     kernels_pushed (k ∷ kinds) (o ∷ rows) (first, are) = ap (λ l. kernel_of (slice_get shapes k) o ∷ l) (kernels_pushed kinds rows are)
+
+-- kernels of one shape
+module _ (shapes : List Shape) (kinds : List ℕ) (origins : List (List ℕ)) (view : List Kernel) (are : AreShaped shapes kinds origins) (seen : kernels_of shapes kinds origins ≡ view) where
+  -- the kernel of a row whose kind is told
+  module _ (j : ℕ) (lt : j < length view) (kind : ℕ) (has : slice_get kinds j ≡ Some kind) (shape : Shape) (is : slice_get shapes kind ≡ Some shape) where
+    told : (k : ℕ) → slice_get kinds j ≡ Some k → slice_get shapes k ≡ Some shape
+    told k e = let same : k ≡ kind = by k kind (sym e ∙ has) in ap (slice_get shapes) same ∙ is
+      where
+        by : (a b : ℕ) → Some a ≡ Some b → a ≡ b
+        by a b e = cc
+
+    pub begun_told : shape.begun ≡ (kernel_at view j).begun
+    begun_told = begun_here shapes kinds origins view are seen j lt shape told
+
+    pub dotted_told : dotted_of shape.slotted.items ≡ dotted_of (kernel_at view j).packed
+    dotted_told =
+        sym (dotted_placed (list_at origins j) shape.slotted.items (slotted_here shapes kinds origins view are seen j lt shape told))
+        ∙ ap dotted_of (packed_here shapes kinds origins view are seen j lt shape told)
+
+  module _ (i j : ℕ) (li : i < length view) (lj : j < length view) (a b : ℕ) (ia : a ≡ slice_index_or kinds i 0) (ib : b ≡ slice_index_or kinds j 0) (e : IsTrue (nat_eq a b)) where
+    hi : slice_get kinds i ≡ Some a
+    hi = slice_get-get_or kinds i 0 (in_kinds shapes kinds origins view are seen i li) ∙ ap Some (sym ia)
+
+    hj : slice_get kinds j ≡ Some a
+    hj = slice_get-get_or kinds j 0 (in_kinds shapes kinds origins view are seen j lj) ∙ ap Some (sym ib ∙ sym (eqb-true a b e))
+
+    at : IsKernelAt shapes kinds origins i
+    at = shaped_at shapes kinds origins i are (in_kinds shapes kinds origins view are seen i li)
+
+    same_kind : (x y : ℕ) → Some x ≡ Some y → x ≡ y
+    same_kind x y h = cc
+
+    is : slice_get shapes a ≡ Some at.shaped.shape
+    is = ap (slice_get shapes) (same_kind a at.kind (sym hi ∙ at.has)) ∙ at.shaped.is
+
+    pub same_begun : (kernel_at view i).begun ≡ (kernel_at view j).begun
+    same_begun = sym (begun_told i li a hi at.shaped.shape is) ∙ begun_told j lj a hj at.shaped.shape is
+
+    pub same_dotted : dotted_of (kernel_at view i).packed ≡ dotted_of (kernel_at view j).packed
+    same_dotted = sym (dotted_told i li a hi at.shaped.shape is) ∙ dotted_told j lj a hj at.shaped.shape is

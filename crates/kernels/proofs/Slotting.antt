@@ -1,5 +1,5 @@
 -- Slots in place of origins, and back.
-use Rattle.std.proofs.Common.{◌≡◌, inl, inr, ◌↔◌, ℕ, ◌+◌, ◌*◌, ◌/◌, ◌%◌, ◌<◌, ◌++◌, List, [], ◌∷◌, length, map, take, get_or, Some, slice_get, Contains, sym, ◌∙◌, ap, subst, arith}
+use Rattle.std.proofs.Common.{◌≡◌, inl, inr, ◌↔◌, ℕ, ◌+◌, ◌*◌, ◌/◌, ◌%◌, ◌<◌, ◌++◌, List, [], ◌∷◌, length, map, take, get_or, Some, slice_get, Contains, sym, ◌∙◌, ap, subst, refl, suc, arith}
 use Rattle.std.specs.Prelude.{slice_index_or, nat_eq}
 use Rattle.std.specs.Ordering.{nat_cmp}
 use Rattle.std.specs.List.{dedup}
@@ -11,7 +11,7 @@ use Rattle.std.proofs.lemmas.List.Elements.{Contains-push_cases}
 use Rattle.std.proofs.lemmas.List.Kept.{AllPairs-from_increasing, Contains-dedup_nat}
 use Rattle.std.proofs.lemmas.Map.Keys.{IsStrictlyIncreasing-dedup}
 use Rattle.finite_sets.proofs.Lists.{get_index}
-use Rattle.kernels.specs.Slots.{Rises, placed, placed_all, AreOrigins, AreSlotted}
+use Rattle.kernels.specs.Slots.{Rises, placed, placed_all, dotted_of, AreOrigins, AreSlotted}
 use Rattle.kernels.proofs.Numbers.{map_length, map_has, map_from, map_more, index_any, at_least}
 
 -- an origin that is there, at its slot
@@ -152,3 +152,14 @@ module _ (origins packed slotted new : List ℕ) (are : AreOrigins origins) (k s
     where
       here : placed origins (slice_index_or packed k 0 / 4294967296 * 4294967296 + slot) ≡ slice_index_or packed k 0
       here = placed_slot origins [] (record { origins_are = are; rises = λ i j d a b. absurd (omega arith); slots = λ n (j, b, e). absurd (omega arith) }) (slice_index_or packed k 0) slot is
+
+-- the origins change no dotted rule
+pub dotted_placed : (origins slotted : List ℕ) → AreSlotted origins slotted → dotted_of (placed_all origins slotted) ≡ dotted_of slotted
+dotted_placed origins slotted are = go slotted are.slots
+  where
+    go : (row : List ℕ) → ((n : ℕ) → Contains row n → n % 4294967296 < length origins) → dotted_of (placed_all origins row) ≡ dotted_of row
+    go [] slots = refl
+    go (n ∷ row) slots =
+        let head = number_placed origins are.origins_are n (slots n (0, omega arith, refl)) in
+        let rest = go row (λ m (k, lt, e). slots m (suc k, omega arith, e)) in
+        λ i. head i ∷ rest i

@@ -12,6 +12,10 @@ placed origins n = (n / 4294967296) * 4294967296 + slice_index_or origins (n % 4
 abbrev pub placed_all : (origins slotted : List ℕ) → List ℕ
 placed_all origins slotted = map (placed origins) slotted
 
+-- the numbers of the dotted rules, item by item
+abbrev pub dotted_of : (packed : List ℕ) → List ℕ
+dotted_of packed = map (λ n. n / 4294967296) packed
+
 -- different origins in order
 pub record AreOrigins (origins : List ℕ) : Type 0 where
   pub rise : Rises origins

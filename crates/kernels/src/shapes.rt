@@ -1,6 +1,6 @@
 //! Kernels of rows: the items that are a row's own. Each is held by its shape, which many rows have alike, and its origins.
-ghost use Rattle.std.specs.Prelude.{◌≡◌, ℕ, ◌<◌, ◌++◌, ◌∷◌, [], length, take, Some, slice_get, IfOk, OnOk, OnErr};
-ghost use Rattle.kernels.specs.Slots.{Rises, placed_all, AreSlotted};
+ghost use Rattle.std.specs.Prelude.{◌≡◌, ℕ, ◌<◌, ◌++◌, ◌∷◌, [], length, take, Some, slice_get, slice_index_or, IsTrue, IfOk, OnOk, OnErr};
+ghost use Rattle.kernels.specs.Slots.{Rises, placed_all, dotted_of, AreSlotted};
 ghost use Rattle.kernels.specs.Shapes.{kernel_at, IsShapeAt};
 ghost use Rattle.kernels.specs.declared.shapes.Shape.{Shape as TheShape};
 
@@ -91,6 +91,24 @@ impl Kernels {
         }
     }
 
+    /// The number of a kernel's shape, of which no clause tells more.
+    pub fn kind(&self, j: usize) -> u32
+        requires { j < length self.now }
+    {
+        kind_at(&self.kinds, j)
+    }
+
+    /// Whether two kernels have one shape: then they share one list, and have the same dotted rules, in the same order.
+    pub fn is_alike(&self, i: usize, j: usize) -> bool
+        requires first { i < length self.now }
+        requires second { j < length self.now }
+        ensures begun { IsTrue result → (kernel_at self.now i).begun ≡ (kernel_at self.now j).begun }
+        ensures dotted { IsTrue result →
+            dotted_of (kernel_at self.now i).packed ≡ dotted_of (kernel_at self.now j).packed }
+    {
+        kind_at(&self.kinds, i) == kind_at(&self.kinds, j)
+    }
+
     /// Lets all kernels go but the first.
     pub fn keep_first(&mut self)
         ensures { self.new ≡ take 1 self.old }
@@ -115,6 +133,14 @@ impl Kernels {
         self.kinds.push_reserved(kind);
         Ok(())
     }
+}
+
+// The number of a row's shape.
+fn kind_at(kinds: &[u32], j: usize) -> u32
+    requires { j < length kinds.now }
+    ensures { result ≡ slice_index_or kinds.now j 0 }
+{
+    kinds[j]
 }
 
 // The shape of a row.

@@ -6,8 +6,8 @@ use Rattle.std.specs.List.{AllPairs}
 use Rattle.recognizer_model.specs.Links.{Link, IsLink}
 use Rattle.leo_items.specs.Memo.{pairs_of}
 use Rattle.earley_sets.specs.Recognizer.{Recognizer, edges_of, top_of, made}
-use Rattle.earley_sets.specs.Kept.{AreLastMarks}
-use Rattle.earley_sets.proofs.Marked.{marks_at, row_longer, older_marks}
+use Rattle.earley_sets.specs.Expected.{KnowsLast}
+use Rattle.earley_sets.proofs.Expecting.{row_longer, most_more, notes_still}
 use Rattle.earley_sets.proofs.Recognizing.{kept_top, kept_sets, kept_begun, add_kept, added_set, tried_links}
 use Rattle.earley_sets.proofs.recce.Recce.complete_earleme.Goals as goal
 
@@ -30,7 +30,7 @@ invariant_of-self g c =
       c.self.invariant.1,
       c.add_row.ensures.flat,
       c.add_row.ensures.lists,
-      subst (λ (l : List (List Item)). AreLastMarks c.self.inside.flat.now l c.self.inside.marks) (sym c.in_err-add_row.ensures.err.0) c.self.invariant.4,
+      subst (λ (l : List (List Item)). KnowsLast c.self.inside.flat.now l c.self.inside.expected) (sym c.in_err-add_row.ensures.err.0) c.self.invariant.4,
     )
 
 pub invariant_of-self-2 : goal.invariant_of-self-2
@@ -43,17 +43,17 @@ invariant_of-self-2 g c =
       c.self.invariant.1,
       c.add_row.ensures.flat,
       c.add_row.ensures.lists,
-      marks_at c.self.inside.flat.now c.add_row.new.rows.sets c.mark_row.new.marks (c.len-last.result - 1) (ap (λ n. n - 1) c.len-last.ensures) c.mark_row.ensures.room c.mark_row.ensures.marks,
+      c.expect_row.ensures,
     )
 
-pub mark_row-requires-clause-flat : goal.mark_row-requires-clause-flat
-mark_row-requires-clause-flat g c = c.add_row.ensures.flat
+pub expect_row-requires-clause-flat : goal.expect_row-requires-clause-flat
+expect_row-requires-clause-flat g c = c.add_row.ensures.flat
 
-pub mark_row-requires-clause-place : goal.mark_row-requires-clause-place
-mark_row-requires-clause-place g c = let (row, more, _, _) = c.in_ok-add_row.ensures.ok in let l = row_longer c.self.inside.rows.sets c.add_row.new.rows.sets row more in let e = c.len-last.ensures in omega arith
+pub expect_row-requires-clause-last : goal.expect_row-requires-clause-last
+expect_row-requires-clause-last g c = let (row, more, _, _) = c.in_ok-add_row.ensures.ok in let l = row_longer c.self.inside.rows.sets c.add_row.new.rows.sets row more in let e = c.len-last.ensures in omega arith
 
-pub mark_row-requires-clause-few : goal.mark_row-requires-clause-few
-mark_row-requires-clause-few g c =
+pub expect_row-requires-clause-few : goal.expect_row-requires-clause-few
+expect_row-requires-clause-few g c =
     let v = ap (λ (r : Recognizer). length r.sets) c.self.view_is in
     let r = c.requires in
     let (row, more, _, _) = c.in_ok-add_row.ensures.ok in
@@ -61,15 +61,20 @@ mark_row-requires-clause-few g c =
     let e = c.len-last.ensures in
     omega arith
 
-pub mark_row-requires-clause-older : goal.mark_row-requires-clause-older
-mark_row-requires-clause-older g c =
+pub expect_row-requires-clause-most : goal.expect_row-requires-clause-most
+expect_row-requires-clause-most g c =
     let (row, more, _, _) = c.in_ok-add_row.ensures.ok in
     let l = row_longer c.self.inside.rows.sets c.add_row.new.rows.sets row more in
     let e = c.len-last.ensures in
-    older_marks c.self.inside.flat.now c.self.inside.rows.sets c.self.inside.marks (c.len-last.result - 1) c.self.invariant.0.is.some (omega arith) c.self.invariant.4
+    most_more (length c.self.inside.rows.sets) (c.len-last.result - 1) c.self.inside.expected.marks.rows.items (omega arith) c.self.invariant.4.most
 
-pub mark_row-requires-clause-room : goal.mark_row-requires-clause-room
-mark_row-requires-clause-room g c = c.self.invariant.4.room
+pub expect_row-requires-clause-room : goal.expect_row-requires-clause-room
+expect_row-requires-clause-room g c = c.self.invariant.4.room
+
+pub expect_row-requires-clause-notes : goal.expect_row-requires-clause-notes
+expect_row-requires-clause-notes g c =
+    let (row, more, _, _) = c.in_ok-add_row.ensures.ok in
+    notes_still c.self.inside.flat.now c.self.inside.rows.sets c.add_row.new.rows.sets row c.self.inside.expected.lists c.self.inside.expected.notes.items more c.self.invariant.4.notes
 
 pub returns-clause-ok : goal.returns-clause-ok
 returns-clause-ok g c =

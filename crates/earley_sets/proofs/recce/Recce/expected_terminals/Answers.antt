@@ -1,17 +1,23 @@
-use Rattle.std.proofs.Common.{◌↔◌, ◌-◌, ℕ, length, sym, subst, Contains}
+use Rattle.std.proofs.Common.{◌↔◌, ◌<◌, ◌-◌, ℕ, List, length, sym, subst, arith}
+use Rattle.std.specs.List.{AllPairs}
 use Rattle.item_rows.specs.Rows.{row_at}
-use Rattle.earley_sets.specs.Kept.{IsAwaitedTerminal}
+use Rattle.item_rows.specs.Marks.{IsAwaitedTerminal}
 use Rattle.earley_sets.specs.Recognizer.{Recognizer, IsExpected}
+use Rattle.earley_sets.proofs.Expecting.{expected_of}
 use Rattle.earley_sets.proofs.Recognizing.{listed_expected}
 use Rattle.earley_sets.proofs.recce.Recce.expected_terminals.Goals as goal
 
+pub terminals-requires : goal.terminals-requires
+terminals-requires c note e = (c.self.invariant.4.note note e).list
+
+pub returns-clause-once : goal.returns-clause-once
+returns-clause-once c =
+    let order = subst (λ (l : List ℕ). AllPairs (λ s t. s < t) l) (sym c.terminals.ensures) c.self.invariant.4.last.order in
+    λ i j d lt below e. (let o = order i j d lt below in omega (arith, o, e))
+
 pub returns-clause-exact : goal.returns-clause-exact
 returns-clause-exact c =
-    let law : (t : ℕ) → IsAwaitedTerminal c.self.inside.flat.now (row_at c.self.inside.rows.sets (length c.self.inside.rows.sets - 1)) (length c.self.inside.flat.now.symbols) t ↔ IsExpected c.args.self.now t =
-    λ t. subst (λ (r : Recognizer). IsAwaitedTerminal c.self.inside.flat.now (row_at c.self.inside.rows.sets (length c.self.inside.rows.sets - 1)) (length c.self.inside.flat.now.symbols) t ↔ IsExpected r t) c.self.view_is
+    let law : (t : ℕ) → IsAwaitedTerminal c.self.inside.flat.now (row_at c.self.inside.rows.sets (length c.self.inside.rows.sets - 1)) t ↔ IsExpected c.args.self.now t =
+    λ t. subst (λ (r : Recognizer). IsAwaitedTerminal c.self.inside.flat.now (row_at c.self.inside.rows.sets (length c.self.inside.rows.sets - 1)) t ↔ IsExpected r t) c.self.view_is
     (listed_expected c.self.inside.flat.now c.self.inside.start c.self.inside.edges c.self.inside.rows.sets c.self.inside.top c.self.inside.memo c.self.invariant.0 t) in
-    let exact = c.self.invariant.4.last.exact in
-    λ t. (
-      λ h. (law t).0 ((exact t).0 (subst (λ l. Contains l t) c.deref.ensures.value h)),
-      λ h. subst (λ l. Contains l t) (sym c.deref.ensures.value) ((exact t).1 ((law t).1 h)),
-    )
+    expected_of c.self.inside.flat.now (row_at c.self.inside.rows.sets (length c.self.inside.rows.sets - 1)) _ c.terminals.result.now (IsExpected c.args.self.now) c.self.invariant.4.last c.terminals.ensures law

@@ -5,7 +5,7 @@ use Rattle.grammar_model.specs.Derives.{Held}
 use Rattle.recognizer_model.specs.Counts.{IsListOf}
 use Rattle.recognizer_model.specs.FlatForm.{FlatEdges}
 use Rattle.recognizer_model.specs.Leo.{InReduced}
-use Rattle.earley_sets.proofs.Marked.{marks_at, one_row}
+use Rattle.earley_sets.proofs.Expecting.{no_notes, one_row}
 use Rattle.earley_sets.proofs.Recognizing.{first_kept, top_is_top}
 use Rattle.earley_sets.proofs.recce.Recce.new.Goals as goal
 
@@ -21,11 +21,14 @@ invariant_of-result c =
       c.in_ok-heads.ensures,
       c.in_ok-rows.ensures.flat,
       c.in_ok-rows.ensures.lists,
-      marks_at c.args.flat.now c.in_ok-rows.rows.sets c.mark_row.new.marks 0 (let l = one_row c.in_ok-rows.rows.sets kept rows in omega arith) c.mark_row.ensures.room c.mark_row.ensures.marks,
+      c.expect_row.ensures,
     )
 
-pub mark_row-requires-clause-flat : goal.mark_row-requires-clause-flat
-mark_row-requires-clause-flat c = c.in_ok-rows.ensures.flat
+pub expect_row-requires-clause-flat : goal.expect_row-requires-clause-flat
+expect_row-requires-clause-flat c = c.in_ok-rows.ensures.flat
 
-pub mark_row-requires-clause-place : goal.mark_row-requires-clause-place
-mark_row-requires-clause-place c = let (row, one, _, _) = c.in_ok-rows.ensures.ok in let l = one_row c.in_ok-rows.rows.sets row one in omega arith
+pub expect_row-requires-clause-last : goal.expect_row-requires-clause-last
+expect_row-requires-clause-last c = let (row, one, _, _) = c.in_ok-rows.ensures.ok in one_row c.in_ok-rows.rows.sets row one
+
+pub expect_row-requires-clause-notes : goal.expect_row-requires-clause-notes
+expect_row-requires-clause-notes c = no_notes c.args.flat.now c.in_ok-rows.rows.sets c.in_ok-expected.expected.lists c.in_ok-expected.expected.notes.items c.in_ok-expected.ensures.notes

@@ -3,7 +3,7 @@ use Rattle.recognizer_model.specs.declared.Item.{Item}
 use Rattle.item_rows.specs.Rows.{ItemRows, row_at}
 use Rattle.earley_sets.specs.Begun.{AreLists}
 use Rattle.earley_sets.specs.Recognizer.{Recognizer, set_at}
-use Rattle.earley_sets.proofs.Marked.{marks_at, one_row, room_stays}
+use Rattle.earley_sets.proofs.Expecting.{no_notes, one_row, room_stays}
 use Rattle.earley_sets.proofs.Recognizing.{first_there, restarted}
 use Rattle.earley_sets.proofs.recce.Recce.restart.Goals as goal
 
@@ -17,17 +17,20 @@ invariant_of-self c = (
   c.self.invariant.1,
   ap (λ (r : ItemRows). r.flat) c.keep_first.ensures ∙ c.self.invariant.2,
   subst (λ (l : List (List Item)). AreLists c.self.inside.flat.now l c.self.inside.lists.numbers.entries) (sym (ap (λ (r : ItemRows). r.shared) c.keep_first.ensures)) c.self.invariant.3,
-  marks_at c.self.inside.flat.now c.keep_first.new.self.sets c.mark_row.new.marks 0 (let l = one_row c.keep_first.new.self.sets (row_at c.self.inside.rows.sets 0) (ap (λ (r : ItemRows). r.sets) c.keep_first.ensures) in omega arith) c.mark_row.ensures.room c.mark_row.ensures.marks,
+  c.expect_row.ensures,
 )
 
-pub mark_row-requires-clause-flat : goal.mark_row-requires-clause-flat
-mark_row-requires-clause-flat c = ap (λ (r : ItemRows). r.flat) c.keep_first.ensures ∙ c.self.invariant.2
+pub expect_row-requires-clause-flat : goal.expect_row-requires-clause-flat
+expect_row-requires-clause-flat c = ap (λ (r : ItemRows). r.flat) c.keep_first.ensures ∙ c.self.invariant.2
 
-pub mark_row-requires-clause-place : goal.mark_row-requires-clause-place
-mark_row-requires-clause-place c = let l = one_row c.keep_first.new.self.sets (row_at c.self.inside.rows.sets 0) (ap (λ (r : ItemRows). r.sets) c.keep_first.ensures) in omega arith
+pub expect_row-requires-clause-last : goal.expect_row-requires-clause-last
+expect_row-requires-clause-last c = one_row c.keep_first.new.self.sets (row_at c.self.inside.rows.sets 0) (ap (λ (r : ItemRows). r.sets) c.keep_first.ensures)
 
-pub mark_row-requires-clause-room : goal.mark_row-requires-clause-room
-mark_row-requires-clause-room c = room_stays c.self.inside.flat.now c.self.inside.marks c.take_marks.new.marks c.take_marks.ensures.same.0 c.take_marks.ensures.same.1 c.self.invariant.4.room
+pub expect_row-requires-clause-room : goal.expect_row-requires-clause-room
+expect_row-requires-clause-room c = room_stays c.self.inside.flat.now c.self.inside.expected.marks c.forget.new.expected.marks c.forget.ensures.room.0 c.forget.ensures.room.1 c.self.invariant.4.room
+
+pub expect_row-requires-clause-notes : goal.expect_row-requires-clause-notes
+expect_row-requires-clause-notes c = no_notes c.self.inside.flat.now c.keep_first.new.self.sets c.forget.new.expected.lists c.forget.new.expected.notes.items c.forget.ensures.notes
 
 pub returns-clause-sets : goal.returns-clause-sets
 returns-clause-sets c = ap (λ (r : ItemRows). r.sets) c.keep_first.ensures ∙ ap (λ (r : Recognizer). set_at r 0 ∷ []) c.self.view_is
