@@ -1,5 +1,5 @@
 -- What is known of the terminals that the last set waits for.
-use Rattle.std.proofs.Common.{◌≡◌, ◌⊎◌, inl, inr, ◌↔◌, ℕ, ◌+◌, ◌-◌, ◌<◌, ◌≤◌, ◌++◌, List, [], ◌∷◌, length, Option, Some, None, slice_get, slice_set, Contains, refl, sym, ◌∙◌, ap, subst, arith, length-append}
+use Rattle.std.proofs.Common.{◌≡◌, ◌⊎◌, inl, inr, ◌↔◌, ℕ, ◌+◌, ◌-◌, ◌<◌, ◌≤◌, ◌++◌, List, [], ◌∷◌, length, Option, Some, None, slice_set, Contains, refl, sym, ◌∙◌, ap, subst, arith, length-append}
 use Rattle.std.specs.Prelude.{vec_capacity, slice_index_or, IfSome}
 use Rattle.std.specs.declared.vec.Vec.{Vec}
 use Rattle.std.specs.declared.alloc.Global.{Global}
@@ -44,9 +44,9 @@ pub terminals_alike : (g : FlatGrammar) (a b : List Item) (terminals : List ℕ)
 terminals_alike g a b terminals same are = record {
   order = are.order;
   exact = λ t. (
-      λ h. alike_waits g a b same t ((are.exact t).0 h),
-      λ w. (are.exact t).1 (alike_waits g b a (λ rule dot. ((same rule dot).1, (same rule dot).0)) t w),
-      );
+    λ h. alike_waits g a b same t ((are.exact t).0 h),
+    λ w. (are.exact t).1 (alike_waits g b a (λ rule dot. ((same rule dot).1, (same rule dot).0)) t w),
+  );
 }
 
 -- the terminals of the last row, at its number

@@ -22,7 +22,9 @@ ghost use Rattle.earley_sets.specs.Recognizer.{Recognizer, earleme_of, set_at, e
 ghost use Rattle.earley_sets.specs.declared.recce.AlternativeRefusal.TheVariants.{Unexpected, Duplicate, BadLength};
 
 use crate::close::{Work, make_kernel};
-use crate::expected::{Expected, copy_of, expect_row, forget, has_terminal, new_expected, place_alike, terminals};
+use crate::expected::{
+    Expected, copy_of, expect_row, forget, has_terminal, new_expected, place_alike, terminals,
+};
 use crate::lists::{Lists, find_list, new_lists};
 use grammar_core::{EdgeRefusal, Flat, SymbolId, TokenEdges};
 use item_rows::{Heads, Row, Rows, list_heads, symbol_of};

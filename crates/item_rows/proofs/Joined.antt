@@ -261,9 +261,12 @@ module _ (rules : List Item) where
   from_number : (earleme : ℕ) (packed begun : List ℕ) (rule dot : ℕ) → HasNumber (dotted_of packed) begun rule dot → HasDotted (row_items rules earleme packed begun) rule dot
   from_number earleme packed begun rule dot (k, s, r, d) = elim s [
     | inl a ↦ (
-        let (n, hn, e) = map_from (λ m. m / 4294967296) packed k a in
-        (unpacked rules n, Contains-append_left (map (unpacked rules) packed) (map (begun_at rules earleme) begun) (unpacked rules n) (map_has (unpacked rules) packed n hn),
-        ap (λ m. (dotted_at rules m).rule) e ∙ r, ap (λ m. (dotted_at rules m).dot) e ∙ d))
+        let (n, hn, e) = map_from (λ m. m / 4294967296) packed k a in (
+          unpacked rules n,
+          Contains-append_left (map (unpacked rules) packed) (map (begun_at rules earleme) begun) (unpacked rules n) (map_has (unpacked rules) packed n hn),
+          ap (λ m. (dotted_at rules m).rule) e ∙ r,
+          ap (λ m. (dotted_at rules m).dot) e ∙ d,
+        ))
     | inr b ↦ (begun_at rules earleme k, Contains-append_right (map (unpacked rules) packed) (map (begun_at rules earleme) begun) (begun_at rules earleme k) (map_has (begun_at rules earleme) begun k b), r, d)
   ]
 

@@ -1,4 +1,4 @@
-use Rattle.std.proofs.Common.{◌≡◌, List, Option, Some, Contains, subst, sym, arith}
+use Rattle.std.proofs.Common.{List, Option, Some, Contains, subst, arith}
 use Rattle.item_rows.specs.Rows.{row_at}
 use Rattle.earley_sets.specs.declared.expected.Note.{Note}
 use Rattle.earley_sets.proofs.Expecting.{terminals_alike, at_last, most_more}

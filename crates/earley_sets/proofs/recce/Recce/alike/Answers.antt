@@ -1,4 +1,4 @@
-use Rattle.std.proofs.Common.{◌≡◌, ◌≤◌, ◌<◌, ◌↔◌, ◌-◌, ◌∙◌, ℕ, length, refl, sym, ap, subst, arith}
+use Rattle.std.proofs.Common.{◌≡◌, ◌↔◌, ◌-◌, ◌∙◌, length, refl, sym, ap, subst, arith}
 use Rattle.earley_sets.specs.Expected.{place_told}
 use Rattle.earley_sets.specs.Recognizer.{Recognizer, WaitsAt, IsExpected, earleme_of}
 use Rattle.earley_sets.proofs.Expecting.{place_there, place_waits}

@@ -1,4 +1,4 @@
-use Rattle.std.proofs.Common.{◌↔◌, ◌<◌, ◌-◌, ℕ, List, length, sym, ◌∙◌, subst, IfOk, Result, Ok, Err, Contains}
+use Rattle.std.proofs.Common.{◌↔◌, ◌<◌, ◌-◌, ℕ, List, length, sym, ◌∙◌, subst}
 use Rattle.std.specs.List.{AllPairs}
 use Rattle.item_rows.specs.Rows.{row_at}
 use Rattle.item_rows.specs.Marks.{IsAwaitedTerminal}

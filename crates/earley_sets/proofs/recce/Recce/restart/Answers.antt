@@ -1,4 +1,4 @@
-use Rattle.std.proofs.Common.{◌∙◌, ◌∷◌, [], List, ap, sym, subst, arith}
+use Rattle.std.proofs.Common.{◌∙◌, ◌∷◌, [], List, ap, sym, subst}
 use Rattle.recognizer_model.specs.declared.Item.{Item}
 use Rattle.item_rows.specs.Rows.{ItemRows, row_at}
 use Rattle.earley_sets.specs.Begun.{AreLists}
