@@ -173,14 +173,7 @@ module _ (m : Machine) (is : IsMachine m) where
           rows = grown_added m.rows rows row added;
         }
 
--- ---- a state of no text is found, or made
-
-module _ (m : Machine) (is : IsMachine m) (begins : List (Vec ℕ Global × ℕ)) (same : begins ≡ m.begins) where
-  pub found_machine : IsMachine (record m { begins = begins })
-  found_machine = subst (λ (b : List (Vec ℕ Global × ℕ)). IsMachine (record m { begins = b })) (sym same) is
-
-  pub found_goes : (new : Machine) → Goes (record m { begins = begins }) new → Goes m new
-  found_goes new g = record { is = g.is; form = g.form; parts = g.parts; rows = g.rows }
+-- ---- a state of no text is made
 
 module _ (m : Machine) (is : IsMachine m) (rows : List (List Thread)) (kinds : Vec Kind Global) (row : List Thread) (threads : AreThreads m.flat.now (length m.parts) row) (added : (rows ≡ m.rows) ⊎ (rows ≡ m.rows ++ row ∷ [])) (of : AreKinds m.flat.now rows kinds.items) where
   pub begun_rows : Goes m (record m { rows = rows; kinds = kinds })

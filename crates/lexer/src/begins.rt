@@ -6,17 +6,10 @@ use indexmap::IndexMap;
 use std::alloc::{AllocError, Global};
 use std::marker::Model;
 
-// How many places are tried before the table is asked.
-const RECENT: usize = 16;
-
 /// The states that lists of starts begin with. It is seen as the lists, each with its state.
 #[derive(Drop)]
 pub struct Begins {
     states: IndexMap<Vec<u32>, usize>,
-    // places of the table, those that it was asked for last
-    recent: [usize; RECENT],
-    // how often it was asked
-    asked: usize,
 }
 
 impl Model for Begins {
@@ -54,42 +47,25 @@ impl Begins {
     {
         Begins {
             states: IndexMap::new(alloc),
-            recent: [0; RECENT],
-            asked: 0,
         }
     }
 
-    // The state of a list that the table was asked for lately.
-    fn find_recent(&self, starts: &[u32]) -> Option<usize>
+    // The state of a list, by the table, and where it stands there.
+    fn look_up(&self, starts: &[u32], hint: &mut usize) -> Option<usize>
         ensures { IfSome result (HasBegin self.now starts.now) }
     {
-        for place in &self.recent {
-            if let Some(state) = state_at(&self.states, *place, starts) {
-                return Some(state);
-            }
-        }
-        None
-    }
-
-    // The state of a list, by the table.
-    fn look_up(&mut self, starts: &[u32]) -> Option<usize>
-        ensures same { self.new ≡ self.old }
-        ensures found { IfSome result (HasBegin self.old starts.now) }
-    {
         let place = self.states.get_index_of(starts)?;
-        self.recent[self.asked % RECENT] = place;
-        self.asked = self.asked.wrapping_add(1);
+        *hint = place;
         state_at(&self.states, place, starts)
     }
 
-    /// The state of a list of starts, if it is noted. The lists that were asked for lately are compared first.
-    pub fn find(&mut self, starts: &[u32]) -> Option<usize>
-        ensures same { self.new ≡ self.old }
-        ensures found { IfSome result (HasBegin self.old starts.now) }
+    /// The state of a list of starts, if it is noted. The hint tells where the list may stand, and is told where it stands.
+    pub fn find(&self, starts: &[u32], hint: &mut usize) -> Option<usize>
+        ensures { IfSome result (HasBegin self.now starts.now) }
     {
-        match self.find_recent(starts) {
+        match state_at(&self.states, *hint, starts) {
             Some(state) => Some(state),
-            None => self.look_up(starts),
+            None => self.look_up(starts, hint),
         }
     }
 

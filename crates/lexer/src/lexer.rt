@@ -259,6 +259,7 @@ fn longest_by(
     chars: &Chars,
     at: usize,
     candidates: &[u32],
+    hint: &mut usize,
     done: &mut Vec<u32>,
     matched: &mut Vec<u32>,
 ) -> Result<Option<u32>, AllocError>
@@ -274,7 +275,7 @@ fn longest_by(
         chars.now at candidates.now n matched.new.items)) }
 {
     forget_if_full(machine);
-    let first = begin(machine, alloc, candidates)?;
+    let first = begin(machine, alloc, candidates, hint)?;
     let best = read(machine, alloc, chars, at, candidates, first)?;
     if best.length == 0 {
         return Ok(None);
@@ -347,12 +348,36 @@ impl<'g> Lexer<'g> {
         ensures some { IfOk result (λ longest. IfSome longest (λ n. IsLongestMatch self.old
             chars.now at candidates.now n matched.new.items)) }
     {
+        let mut hint = 0;
+        self.find_by_hint(alloc, chars, at, candidates, &mut hint, matched)
+    }
+
+    /// The same. The hint tells where the candidates may be noted, and is told where they are: what it is changes no answer.
+    pub fn find_by_hint(
+        &mut self,
+        alloc: Global,
+        chars: &Chars,
+        at: usize,
+        candidates: &[u32],
+        hint: &mut usize,
+        matched: &mut Vec<u32>,
+    ) -> Result<Option<u32>, AllocError>
+        requires at { at ≤ length chars.now }
+        requires few { length chars.now ≤ LONGEST_INPUT }
+        requires starts { (k : ℕ) → Contains candidates.now k → k < length self.old.flat.tops }
+        ensures same { self.new ≡ self.old }
+        ensures none { IfOk result (λ longest. IsNone longest →
+            IsUnmatched self.old chars.now at candidates.now) }
+        ensures some { IfOk result (λ longest. IfSome longest (λ n. IsLongestMatch self.old
+            chars.now at candidates.now n matched.new.items)) }
+    {
         longest_by(
             &mut self.machine,
             alloc,
             chars,
             at,
             candidates,
+            hint,
             &mut self.done,
             matched,
         )

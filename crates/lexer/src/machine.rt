@@ -88,8 +88,13 @@ pub fn forget_if_full(machine: &mut Machine<'_>)
     }
 }
 
-/// The state of no text, for some starts.
-pub fn begin(machine: &mut Machine<'_>, alloc: Global, starts: &[u32]) -> Result<usize, AllocError>
+/// The state of no text, for some starts. The hint tells where they may be noted.
+pub fn begin(
+    machine: &mut Machine<'_>,
+    alloc: Global,
+    starts: &[u32],
+    hint: &mut usize,
+) -> Result<usize, AllocError>
     requires is { IsMachine machine.old }
     requires starts { (k : ℕ) → Contains starts.now k → k < length machine.old.flat.now.tops }
     ensures goes { Goes machine.old machine.new }
@@ -98,7 +103,7 @@ pub fn begin(machine: &mut Machine<'_>, alloc: Global, starts: &[u32]) -> Result
         IsBegin machine.new.flat.now machine.new.parts starts.now set
         (list_at machine.new.rows s)) }
 {
-    if let Some(state) = machine.begins.find(starts) {
+    if let Some(state) = machine.begins.find(starts, hint) {
         return Ok(state);
     }
     let mut row = Vec::new(alloc);

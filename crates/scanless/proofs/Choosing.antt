@@ -1,6 +1,6 @@
 -- What a program gathers from the rows of lexemes and the starts that are marked is what reading takes.
-use Rattle.std.proofs.Common.{arith, ◌≡◌, ◌↔◌, ◌⊎◌, inl, inr, ℕ, ◌+◌, ◌<◌, ◌≤◌, ◌≤ℤ◌, IsFalse, List, [], ◌++◌, length, map, get_or, All, Contains, Some, None, refl, sym, ◌∙◌, ap, subst}
-use Rattle.std.proofs.lemmas.List.Elements.{All-contains, Contains-append_left, Contains-append_right, Contains-append_cases, Contains-get_or}
+use Rattle.std.proofs.Common.{arith, ◌≡◌, ◌↔◌, inr, ℕ, ◌+◌, ◌<◌, ◌≤◌, ◌≤ℤ◌, List, [], length, map, get_or, Contains, Some, None, refl, sym, ◌∙◌, ap, subst}
+use Rattle.std.proofs.lemmas.List.Elements.{Contains-get_or}
 use Rattle.std.specs.List.Sorted.{IsStrictlySortedBy}
 use Rattle.std.specs.Ordering.{nat_cmp}
 use Rattle.std.specs.Prelude.{slice_get, option_map}
@@ -51,28 +51,6 @@ one_longest b text pieces at m n l k = let x = l.longest k.start n k.candidate k
 
 pub skipped_is : (b : Built) (text : List ℕ) (pieces : List Piece) (at n : ℕ) (matched : List ℕ) → IsLongestBy b text pieces at n matched → ((k : ℕ) × Contains b.discards k × Contains matched k) ↔ IsSkipped b text pieces at n
 skipped_is b text pieces at n matched by = ((λ (k, c, mk). (k, c, ((by.exact k).0 mk).1)), (λ (k, c, h). (k, c, (by.exact k).1 (ADiscard c, h))))
-
--- ---- the starts that are looked for
-
-module _ (b : Built) (P : LexemeRow → Type 0) (xs list : List ℕ) (g : Gathers P (λ (l : LexemeRow). l.start) b.lexemes xs) (e : list ≡ xs ++ b.discards) where
-  pub candidates_known : All (λ (l : LexemeRow). l.start < length b.l0.starts) b.lexemes → All (λ k. k < length b.l0.starts) b.discards → (k : ℕ) → Contains list k → k < length b.l0.starts
-  candidates_known starts within k c = elim (Contains-append_cases xs b.discards k (subst (λ l. Contains l k) e c)) [
-    | inr d ↦ All-contains (λ i. i < length b.l0.starts) b.discards k within d
-    | inl o ↦ (let (l, m, p, is) = (g k).0 o in subst (λ z. z < length b.l0.starts) is (All-contains (λ (l : LexemeRow). l.start < length b.l0.starts) b.lexemes l starts m))
-  ]
-
-  pub candidates_are : (pieces : List Piece) → ((l : LexemeRow) → P l ↔ (IsFalse l.latm ⊎ IsNext b pieces l.symbol)) → AreCandidates b pieces list
-  candidates_are pieces means start = (there, back)
-    where
-      there : Contains list start → IsCandidate b pieces start
-      there c = elim (Contains-append_cases xs b.discards start (subst (λ l. Contains l start) e c)) [
-        | inr d ↦ ADiscard d
-        | inl o ↦ (let (l, m, q, is) = (g start).0 o in ALexeme l m is ((means l).0 q))
-      ]
-
-      back : IsCandidate b pieces start → Contains list start
-      back (ADiscard d) = subst (λ l. Contains l start) (sym e) (Contains-append_right xs b.discards start d)
-      back (ALexeme l c is h) = subst (λ l. Contains l start) (sym e) (Contains-append_left xs b.discards start ((g start).1 (l, c, (means l).1 h, is)))
 
 -- ---- the rows are those of the lexemes
 

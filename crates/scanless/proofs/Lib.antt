@@ -10,3 +10,4 @@ mod Matched
 mod Edges
 mod Results
 mod Ascending
+mod Noting

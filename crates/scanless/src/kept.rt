@@ -207,6 +207,7 @@ fn has_one(starts: &[u32], matched: &[u32]) -> bool
 
 /// Lists the lexemes that are kept of the longest match, by their numbers, and tells what can be taken.
 pub fn choose(work: &mut Work<'_>, p: &Prepared, recce: &Recce<'_>) -> Result<Choice, AllocError>
+    ensures notes { work.new.notes ≡ work.old.notes }
     ensures same { (work.new.lexer ≡ work.old.lexer) ×
         (work.new.matched.items ≡ work.old.matched.items) }
     ensures sorted { OnOk result (IsStrictlySortedBy nat_cmp work.new.kept.items) }

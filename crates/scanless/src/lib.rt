@@ -4,6 +4,7 @@
 mod candidates;
 mod kept;
 mod names;
+mod notes;
 mod piece;
 mod reading;
 mod taking;

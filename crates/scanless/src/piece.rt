@@ -7,6 +7,7 @@ ghost use Rattle.earley_sets.specs.Recognizer.{earleme_of};
 ghost use Rattle.earley_sets.specs.Counted.{CountsFrom};
 ghost use Rattle.scanless.specs.Taking.{TakesSome};
 ghost use Rattle.scanless.specs.Reading.{HoldsPieces};
+ghost use Rattle.scanless.specs.Noted.{AreNoted};
 ghost use Rattle.scanless.specs.Pieces.{IsLexerOf};
 ghost use Rattle.scanless.specs.Cutting.{IsCut, IsPiece, CutMoves, Moves};
 
@@ -60,11 +61,13 @@ pub fn take_piece<L: Ledger>(
     steps: &mut Steps<L>,
 ) -> Result<Cut, AllocError>
     requires lexer { IsLexerOf p.now work.old.lexer }
+    requires notes { AreNoted p.now recce.old work.old.notes }
     requires more { at < length chars.now }
     requires few { length chars.now ≤ LONGEST_INPUT }
     requires place { earleme_of recce.old < LAST_PLACE }
     requires begun { (e : HeldEdge) → Contains recce.old.edges e → e.from < earleme_of recce.old }
     ensures lexer { IsLexerOf p.now work.new.lexer }
+    ensures notes { AreNoted p.now recce.new work.new.notes }
     ensures cut { IfOk result (λ cut. (pieces : List ThePiece) →
         HoldsPieces p.now pieces recce.old → IsCut p.now chars.now pieces at recce.old recce.new
         cut) }

@@ -55,6 +55,7 @@ pub struct Reader<'p> {
 }
 
 impl<'p> Model for Reader<'p> {
+    ghost use Rattle.scanless.specs.Noted.{AreNoted};
     ghost use Rattle.scanless.specs.Pieces.{IsLexerOf};
     ghost use Rattle.scanless.specs.Reading.{ReadSoFar};
 
@@ -67,7 +68,8 @@ impl<'p> Model for Reader<'p> {
       at = r.at;
     } };
 
-    ghost invariant = { λ r. IsLexerOf r.prepared.now r.work.value.lexer };
+    ghost invariant = { λ r. IsLexerOf r.prepared.now r.work.value.lexer ×
+        AreNoted r.prepared.now r.recce r.work.value.notes };
 }
 
 impl<'p> Reader<'p> {

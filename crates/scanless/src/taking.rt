@@ -6,6 +6,7 @@ ghost use Rattle.grammar_model.specs.declared.Edge.{Edge as HeldEdge};
 ghost use Rattle.grammar_model.specs.declared.limits.TheConstants.{LAST_PLACE};
 ghost use Rattle.earley_sets.specs.Recognizer.{earleme_of, new_edge, IsExpected};
 ghost use Rattle.earley_sets.specs.Counted.{CountsFrom};
+ghost use Rattle.scanless.specs.Noted.{Grows};
 ghost use Rattle.scanless.specs.Taking.{token_edges, Keeps, Takes, TakesSome};
 
 use earley_sets::{AlternativeRefusal, Recce};
@@ -61,6 +62,7 @@ pub fn take_token<L: Ledger>(
     requires begun { (e : HeldEdge) → Contains recce.old.edges e → e.from < earleme_of recce.old }
     ensures takes { OnOk result (Takes recce.old recce.new symbols.now) }
     ensures err { OnErr result (TakesSome recce.old recce.new) }
+    ensures grows { Grows recce.old recce.new }
     ensures counted { OnOk result ((before : ℕ) → CountsFrom recce.old before steps.old →
         CountsFrom recce.new before steps.new) }
 {

@@ -1,38 +1,31 @@
 use Rattle.std.proofs.Common.{refl}
 use Rattle.threads.proofs.Parts.{grown_same, grown_added}
-use Rattle.lexer.proofs.Machines.{with_rows, made_same, found_machine, found_goes, begun_rows, begun_at, begun_begins}
+use Rattle.lexer.proofs.Machines.{with_rows, made_same, begun_rows, begun_at, begun_begins}
 use Rattle.lexer.proofs.machine.begin.Goals as goal
 
 pub returns-in-Some-clause-goes : goal.returns-in-Some-clause-goes
-returns-in-Some-clause-goes c =
-    let is = found_machine c.args.machine.now c.requires.is c.find.new.self c.find.ensures.same in
-    found_goes c.args.machine.now c.requires.is c.find.new.self c.find.ensures.same (record c.args.machine.now { begins = c.find.new.self }) (made_same (record c.args.machine.now { begins = c.find.new.self }) is)
+returns-in-Some-clause-goes c = made_same c.args.machine.now c.requires.is
 
 pub returns-in-Some-clause-there : goal.returns-in-Some-clause-there
-returns-in-Some-clause-there c = (c.requires.is.begins c.args.starts.now c.in-Some.state c.in-Some.ensures.found).0
+returns-in-Some-clause-there c = (c.requires.is.begins c.args.starts.now c.in-Some.state c.in-Some.ensures).0
 
 pub returns-in-Some-clause-begins : goal.returns-in-Some-clause-begins
-returns-in-Some-clause-begins c = (c.requires.is.begins c.args.starts.now c.in-Some.state c.in-Some.ensures.found).1
+returns-in-Some-clause-begins c = (c.requires.is.begins c.args.starts.now c.in-Some.state c.in-Some.ensures).1
 
 pub add_row-requires-clause-row : goal.add_row-requires-clause-row
 add_row-requires-clause-row c = λ th h. (c.in_ok-first_row.ensures.threads th h).is_rule
 
 pub returns-in_err-first_row-clause-goes : goal.returns-in_err-first_row-clause-goes
-returns-in_err-first_row-clause-goes c =
-    let is = found_machine c.args.machine.now c.requires.is c.find.new.self c.find.ensures.same in
-    found_goes c.args.machine.now c.requires.is c.find.new.self c.find.ensures.same (record c.args.machine.now { begins = c.find.new.self }) (made_same (record c.args.machine.now { begins = c.find.new.self }) is)
+returns-in_err-first_row-clause-goes c = made_same c.args.machine.now c.requires.is
 
 pub returns-in_err-state-clause-goes : goal.returns-in_err-state-clause-goes
 returns-in_err-state-clause-goes c =
-    let m = record c.args.machine.now { begins = c.find.new.self } in
-    let is = found_machine c.args.machine.now c.requires.is c.find.new.self c.find.ensures.same in
-    found_goes c.args.machine.now c.requires.is c.find.new.self c.find.ensures.same (record m { rows = c.add_row.new.rows; kinds = c.add_row.new.kinds })
-    (begun_rows m is c.add_row.new.rows c.add_row.new.kinds c.first_row.new.row.items c.in_ok-first_row.ensures.threads c.in_err-state.ensures.added c.in_err-state.ensures.kinds)
+    begun_rows c.args.machine.now c.requires.is c.add_row.new.rows c.add_row.new.kinds c.first_row.new.row.items c.in_ok-first_row.ensures.threads c.in_err-state.ensures.added c.in_err-state.ensures.kinds
 
 pub returns-in_err-note-clause-goes : goal.returns-in_err-note-clause-goes
 returns-in_err-note-clause-goes c =
-    let m = record c.args.machine.now { begins = c.find.new.self } in
-    let is = found_machine c.args.machine.now c.requires.is c.find.new.self c.find.ensures.same in
+    let m = c.args.machine.now in
+    let is = c.requires.is in
     let row = c.first_row.new.row.items in
     let threads = c.in_ok-first_row.ensures.threads in
     let of = c.in_ok-state.ensures.kinds in
@@ -52,8 +45,8 @@ returns-in_err-note-clause-goes c =
 
 pub returns-clause-goes : goal.returns-clause-goes
 returns-clause-goes c =
-    let m = record c.args.machine.now { begins = c.find.new.self } in
-    let is = found_machine c.args.machine.now c.requires.is c.find.new.self c.find.ensures.same in
+    let m = c.args.machine.now in
+    let is = c.requires.is in
     let row = c.first_row.new.row.items in
     let threads = c.in_ok-first_row.ensures.threads in
     let of = c.in_ok-state.ensures.kinds in
@@ -73,5 +66,5 @@ returns-clause-goes c =
 
 pub returns-clause-begins : goal.returns-clause-begins
 returns-clause-begins c =
-    begun_at (record c.args.machine.now { begins = c.find.new.self }) (found_machine c.args.machine.now c.requires.is c.find.new.self c.find.ensures.same) c.add_row.new.rows c.add_row.new.kinds c.first_row.new.row.items c.in_ok-first_row.ensures.threads c.in_ok-state.ensures.added c.in_ok-state.ensures.kinds
+    begun_at c.args.machine.now c.requires.is c.add_row.new.rows c.add_row.new.kinds c.first_row.new.row.items c.in_ok-first_row.ensures.threads c.in_ok-state.ensures.added c.in_ok-state.ensures.kinds
     c.args.starts.now c.in_ok-state.state c.in_ok-state.ensures.found c.in_ok-state.ensures.list c.in_ok-first_row.ensures.begins

@@ -6,6 +6,8 @@ use Rattle.language_model.specs.Building.{Built}
 use Rattle.reading_model.specs.Reading.{Piece, IsLongest, IsKeptNone, IsSkipped, AreFound}
 use Rattle.scanless.specs.Pieces.{IsLongestBy}
 use Rattle.scanless.specs.Taking.{Takes}
+use Rattle.scanless.specs.Noted.{AreNoted}
+use Rattle.scanless.proofs.Noting.{noted_later}
 use Rattle.scanless.specs.Reading.{HoldsPieces, IsChosen}
 use Rattle.scanless.proofs.Results.{is_none}
 use Rattle.scanless.proofs.piece.take_piece.Goals as goal
@@ -57,3 +59,11 @@ returns-in_ok-found-in-Nothing-clause-cut g c = λ pieces holds.
 pub returns-in_ok-take_token-in-Token-clause-moves : goal.returns-in_ok-take_token-in-Token-clause-moves
 returns-in_ok-take_token-in-Token-clause-moves g c =
     (c.choose.new.work.kept.items, c.in_ok-choose.ensures.expected, subst (Takes c.args.recce.now c.take_token.new.recce) c.as_slice.ensures.value c.in_ok-take_token-in-Token.ensures.takes)
+
+pub returns-in_err-take_token-in-Token-clause-notes : goal.returns-in_err-take_token-in-Token-clause-notes
+returns-in_err-take_token-in-Token-clause-notes g c =
+    noted_later c.args.p.now c.args.recce.now c.take_token.new.recce c.choose.new.work.notes c.in_err-take_token-in-Token.ensures.grows (subst (AreNoted c.args.p.now c.args.recce.now) (sym c.in_ok-choose.ensures.notes) c.in_ok-length.ensures.notes)
+
+pub returns-in_ok-take_token-in-Token-clause-notes : goal.returns-in_ok-take_token-in-Token-clause-notes
+returns-in_ok-take_token-in-Token-clause-notes g c =
+    noted_later c.args.p.now c.args.recce.now c.take_token.new.recce c.choose.new.work.notes c.in_ok-take_token-in-Token.ensures.grows (subst (AreNoted c.args.p.now c.args.recce.now) (sym c.in_ok-choose.ensures.notes) c.in_ok-length.ensures.notes)

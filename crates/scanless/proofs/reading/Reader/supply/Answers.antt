@@ -7,6 +7,7 @@ use Rattle.reading_model.specs.First.{IsFirstWith}
 use Rattle.reading_model.specs.Reading.{IsStuck, MaySupply, supplied}
 use Rattle.scanless.specs.Reading.{span_of, ReadSoFar, HasRead, IsReader}
 use Rattle.scanless.proofs.Holding.{holds_begun}
+use Rattle.scanless.proofs.Noting.{noted_later}
 use Rattle.scanless.proofs.Steps.{reads_supplied}
 use Rattle.scanless.proofs.reading.Reader.supply.Goals as goal
 
@@ -31,3 +32,9 @@ returns-clause-supplied g c =
     reads_supplied c.self.inside.prepared.now given text pieces c.self.inside.at c.self.inside.recce c.self.inside.spans.items read c.args.symbol c.take_token.new.recce c.push.new.self.items stuck first takes
     (ap (λ (l : List Span). map span_of l) c.in_ok-push.ensures.items ∙ map-append span_of c.self.inside.spans.items _)))
     c.take_token.ensures.takes
+
+pub invariant_of-self-2 : goal.invariant_of-self-2
+invariant_of-self-2 g c = (
+  c.self.invariant.0,
+  noted_later c.self.inside.prepared.now c.self.inside.recce c.take_token.new.recce c.self.inside.work.value.notes c.take_token.ensures.grows c.self.invariant.1,
+)

@@ -1,7 +1,7 @@
 use Rattle.std.proofs.Common.{◌<◌, ℕ, sym, subst, length, IfOk, Contains}
 use Rattle.std.specs.Prelude.{IsNone, IfSome}
 use Rattle.lexer.specs.Lexical.{LexicalForm, IsLongestMatch, IsUnmatched}
-use Rattle.lexer.proofs.lexer.Lexer.find_longest.Goals as goal
+use Rattle.lexer.proofs.lexer.Lexer.find_by_hint.Goals as goal
 
 pub longest_by-requires-clause-starts : goal.longest_by-requires-clause-starts
 longest_by-requires-clause-starts c = subst (λ (l : LexicalForm). (k : ℕ) → Contains c.args.candidates.now k → k < length l.flat.tops) (sym c.self.view_is) c.requires.starts
