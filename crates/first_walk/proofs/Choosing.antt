@@ -84,7 +84,7 @@ module _ (w : Grammar) (ranking : Ranking) (r : Recognizer) (read : IsRead w r) 
   Split m = IsSplit (reading_of w ranking r) key.rule d key.origin symbol m key.end
 
   -- some last part there is
-  some_split : (m : ℕ) × Split m
+  pub some_split : (m : ℕ) × Split m
   some_split =
       let met = ((used_met w ranking r read key).0 used).1 in
       let (cs, s) = met_spans met in
@@ -100,7 +100,7 @@ module _ (w : Grammar) (ranking : Ranking) (r : Recognizer) (read : IsRead w r) 
           let same : x ≡ symbol = (let both = sym e ∙ part in cc) in
           (m, record { children = cs; predecessor = s; tree = t; cause = subst (λ z. Derives r.flat (edges_of r) z m key.end t) same t' })
 
-  early : (m : ℕ) → Split m → m ≤ key.end
+  pub early : (m : ℕ) → Split m → m ≤ key.end
   early m s = derives_forward r read.is s.cause
 
   module _ (nodes : List ForestNode) (root : Option ℕ) (alternatives : List Alternative) (are : AreAlternatives (F w ranking r nodes root) key alternatives) where

@@ -13,3 +13,6 @@ pub mod Counts
 pub mod Under
 pub mod Giving
 pub mod Coming
+pub mod JoinedOrder
+pub mod JoinedFound
+pub mod Only

@@ -6,7 +6,7 @@ use Rattle.grammar_model.specs.Grammar.{Grammar}
 use Rattle.recognizer_model.specs.declared.Item.{Item}
 use Rattle.recognizer_model.specs.declared.NodeKey.{NodeKey}
 use Rattle.recognizer_model.specs.Below.{item_of}
-use Rattle.recognizer_model.specs.Flat.{FlatGrammar, part_of}
+use Rattle.recognizer_model.specs.Flat.{FlatGrammar, part_of, IsNullable}
 use Rattle.recognizer_model.specs.FlatForm.{flat_order}
 use Rattle.recognizer_model.specs.Items.{IsWhole}
 use Rattle.recognizer_model.specs.Leo.{IsNotLeo, LeadsTo}
@@ -105,6 +105,11 @@ pub record IsFirstMatch (r : Recognizer) (parts : List Part) (symbol : ℕ) (ite
 
 abbrev pub HasNoMatch : Recognizer → List Part → (symbol : ℕ) → Item → Type 0
 HasNoMatch r parts symbol item = (j : ℕ) → j < length parts → ¬ IsMatch r symbol item (part_at parts j)
+
+-- the part is the only one of the symbol, which may not span nothing
+abbrev pub IsOnly : FlatGrammar → List Part → (symbol k : ℕ) → Type 0
+IsOnly g parts symbol k =
+    (¬ IsNullable g symbol) × (k < length parts) × ((part_at parts k).symbol ≡ symbol) × (suc k < length parts → (part_at parts (suc k)).symbol ≢ symbol)
 
 -- one behind it begins elsewhere, and the item is kept there
 abbrev pub HasOtherStart : Recognizer → List Part → Item → ℕ → Type 0

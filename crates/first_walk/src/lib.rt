@@ -1,6 +1,7 @@
 //! The first derivation of a reading, by a walk from the last place to the first, without a forest.
 #![tactic(auto)]
 
+mod joined;
 mod laws;
 mod place;
 mod walk;

@@ -1,9 +1,10 @@
 //! What may be the cause in nodes that end at one place, and the first cause of a node, as the declared order has it.
-ghost use Rattle.std.specs.Prelude.{◌≡◌, ◌≢◌, ℕ, suc, ◌+◌, ◌-◌, ◌<◌, ◌≤◌, ◌↔◌, ◌∷◌, [], Some, None, length, IfOk, OnOk, IfSome, IsNone, IsTrue, Contains};
+ghost use Rattle.std.specs.Prelude.{◌≡◌, ◌≢◌, ℕ, suc, false, ◌+◌, ◌-◌, ◌<◌, ◌≤◌, ◌↔◌, ◌∷◌, [], Some, None, length, IfOk, OnOk, IfSome, IsNone, IsTrue, Contains};
 ghost use Rattle.std.specs.List.Sorted.{IsStrictlySortedBy};
 ghost use Rattle.recognizer_model.specs.declared.NodeKey.{NodeKey as TheKey};
 ghost use Rattle.recognizer_model.specs.Counts.{IsListOf};
-ghost use Rattle.recognizer_model.specs.Flat.{IsNullable, IsRule};
+ghost use Rattle.recognizer_model.specs.Flat.{IsNullable, IsRule, part_of, rhs_of};
+ghost use Rattle.recognizer_model.specs.Items.{after};
 ghost use Rattle.recognizer_model.specs.FlatForm.{IsFlatOf};
 ghost use Rattle.earley_sets.specs.Below.{StandsBelowOf};
 ghost use Rattle.earley_sets.specs.Recognizer.{earleme_of, set_at};
@@ -16,8 +17,10 @@ ghost use Rattle.forest_parts.specs.Parts.{part_cmp, part_at};
 ghost use Rattle.bocage.specs.Expanded.{IsGivenAt};
 ghost use Rattle.bocage.specs.Given.{AreGivenFor};
 ghost use Rattle.bocage.specs.Walk.{IsRead, IsUsedIn};
-ghost use Rattle.first_walk.specs.Place.{IsListed, HaveLast, IsNoted, AreFrom, EndTogether, HavePlaces, IsFrom, IsFirstMatch, HasNoMatch, HasOtherStart, HasOtherWhole, IsAlone, IsFirstOf, IsChosen, Fits, null_high};
+ghost use Rattle.first_walk.specs.Joined.{AreJoinedIf, IsFound};
+ghost use Rattle.first_walk.specs.Place.{IsListed, HaveLast, IsNoted, AreFrom, EndTogether, HavePlaces, IsFrom, IsFirstMatch, HasNoMatch, HasOtherStart, HasOtherWhole, IsOnly, IsAlone, IsFirstOf, IsChosen, Fits, null_high};
 
+use crate::joined::{Found, Joined, find_joined, list_joined};
 use earley_sets::Recce;
 use forest_parts::{Given, NodeKeys, Part, is_null_high, list_needed, list_parts};
 use grammar_core::Written;
@@ -40,6 +43,11 @@ pub struct Place {
     edges: Vec<Edge>,
     tops: Vec<Item>,
     bottoms: Vec<Item>,
+    /// the items that wait for the parts, if they were listed
+    pub joined: Vec<Joined>,
+    pub is_joined: bool,
+    // how many parts were tried
+    tried: usize,
 }
 
 /// The cause of a node's first alternative, and whether there is no other.
@@ -52,7 +60,8 @@ pub struct Chosen {
 
 /// Nothing is listed yet.
 pub fn new_place(alloc: Global) -> Place
-    ensures { result.first ≡ None }
+    ensures first { result.first ≡ None }
+    ensures joined { result.is_joined ≡ false }
 {
     Place {
         first: None,
@@ -61,6 +70,9 @@ pub fn new_place(alloc: Global) -> Place
         edges: Vec::new(alloc),
         tops: Vec::new(alloc),
         bottoms: Vec::new(alloc),
+        joined: Vec::new(alloc),
+        is_joined: false,
+        tried: 0,
     }
 }
 
@@ -145,6 +157,7 @@ pub fn list_place<L: Ledger>(
     requires given { AreGivenFor w.now ranking recce.now given.old }
     ensures first { OnOk result (place.new.first ≡ Some first) }
     ensures listed { OnOk result (IsListed w.now ranking recce.now first place.new.parts.items) }
+    ensures joined { OnOk result (place.new.is_joined ≡ false) }
     ensures given { OnOk result (AreGivenFor w.now ranking recce.now given.new) }
     ensures from { OnOk result (AreFrom first.end given.new) }
     ensures all { OnOk result (steps.new + items_in given.old ≡ steps.old + items_in given.new) }
@@ -163,6 +176,46 @@ pub fn list_place<L: Ledger>(
         &mut place.parts,
     )?;
     place.first = Some(first);
+    place.is_joined = false;
+    place.tried = 0;
+    Ok(())
+}
+
+// Of so few parts each is tried.
+const FEW: usize = 8;
+
+// How many parts are of a symbol.
+fn count_of(parts: &[Part], symbol: u32) -> usize {
+    let before = parts.partition_point(|part| part.symbol < symbol);
+    let past = parts.partition_point(|part| part.symbol <= symbol);
+    past.saturating_sub(before)
+}
+
+// Whether as many parts were tried, with those of a symbol, as there are five times over.
+fn is_often_tried(parts: &[Part], symbol: u32, tried: &mut usize) -> bool {
+    if parts.len() <= FEW {
+        return false;
+    }
+    let count = count_of(parts, symbol);
+    if count > FEW {
+        *tried = tried.saturating_add(count);
+    }
+    *tried / 4 > parts.len()
+}
+
+/// Lists the items that wait for the parts of a place, where these are many and are tried again and again.
+pub fn join_often_tried(recce: &Recce<'_>, symbol: u32, place: &mut Place) -> Result<(), AllocError>
+    requires places { HavePlaces recce.now place.old.parts.items }
+    requires joined { AreJoinedIf place.old.is_joined recce.now place.old.parts.items place.old.joined.items }
+    ensures first { place.new.first ≡ place.old.first }
+    ensures parts { place.new.parts ≡ place.old.parts }
+    ensures joined { OnOk result (AreJoinedIf place.new.is_joined recce.now place.new.parts.items place.new.joined.items) }
+{
+    if place.is_joined || !is_often_tried(&place.parts, symbol, &mut place.tried) {
+        return Ok(());
+    }
+    list_joined(recce, &place.parts, &mut place.joined)?;
+    place.is_joined = true;
     Ok(())
 }
 
@@ -230,6 +283,77 @@ fn has_other_start(recce: &Recce<'_>, parts: &[Part], item: Item, k: usize) -> b
     false
 }
 
+// The same, and whether another may be it that begins elsewhere.
+fn find_tried(
+    recce: &Recce<'_>,
+    parts: &[Part],
+    symbol: u32,
+    item: Item,
+    from: usize,
+) -> Option<Found>
+    requires sorted { IsStrictlySortedBy part_cmp parts.now }
+    requires ends { EndTogether parts.now }
+    requires places { HavePlaces recce.now parts.now }
+    requires from { IsFrom parts.now symbol from }
+    ensures some { IfSome result (λ found. IsFound recce.now parts.now symbol item found) }
+    ensures none { IsNone result → HasNoMatch recce.now parts.now symbol item }
+{
+    match first_match(recce, parts, symbol, item, from) {
+        None => None,
+        Some(first) => Some(Found {
+            first,
+            other: has_other_start(recce, parts, item, first),
+        }),
+    }
+}
+
+// The same, by the items that wait for the parts, if these are listed.
+fn find(
+    recce: &Recce<'_>,
+    parts: &[Part],
+    is_joined: bool,
+    joined: &[Joined],
+    symbol: u32,
+    item: Item,
+    from: usize,
+) -> Option<Found>
+    requires sorted { IsStrictlySortedBy part_cmp parts.now }
+    requires ends { EndTogether parts.now }
+    requires places { HavePlaces recce.now parts.now }
+    requires joined { AreJoinedIf is_joined recce.now parts.now joined.now }
+    requires from { IsFrom parts.now symbol from }
+    requires part { after recce.now.flat item ≡ Some symbol }
+    ensures some { IfSome result (λ found. IsFound recce.now parts.now symbol item found) }
+    ensures none { IsNone result → HasNoMatch recce.now parts.now symbol item }
+{
+    if is_joined {
+        find_joined(recce, parts, joined, symbol, item)
+    } else {
+        find_tried(recce, parts, symbol, item, from)
+    }
+}
+
+// Whether there is a part at a place, and it is of a symbol.
+fn is_of(parts: &[Part], symbol: u32, k: usize) -> bool
+    ensures { IsTrue result ↔ ((k < length parts.now) × ((part_at parts.now k).symbol ≡ symbol)) }
+{
+    match parts.get(k) {
+        Some(part) => part.symbol == symbol,
+        None => false,
+    }
+}
+
+// Whether a part is the only one of a symbol, which may not span nothing: then it is the cause, and nothing is to be looked up.
+fn is_only(recce: &Recce<'_>, parts: &[Part], symbol: u32, k: usize) -> bool
+    requires { symbol < length recce.now.flat.symbols }
+    ensures { IsTrue result → IsOnly recce.now.flat parts.now symbol k }
+{
+    if recce.flat().nullable(symbol) || !is_of(parts, symbol, k) {
+        return false;
+    }
+    !is_of(parts, symbol, k + 1)
+}
+
 // The rank of a whole rule; an edge has none.
 fn rank(part: Part) -> i32
     ensures { result ≡ rank_in part.whole }
@@ -276,28 +400,26 @@ fn may_be_nothing(recce: &Recce<'_>, end: u32, predecessor: Item, symbol: u32) -
     recce.flat().nullable(symbol) && recce.has(end, predecessor)
 }
 
-// Whether a part is the only one that may be the cause, the first of those that may be known.
+// Whether a part is the only one that may be the cause, the first of those that may be known, and whether one may that begins elsewhere.
 fn is_alone(
     recce: &Recce<'_>,
     ranking: Ranking,
     parts: &[Part],
     item: Item,
-    k: usize,
+    found: Found,
     nothing: bool,
 ) -> bool
-    requires sorted { IsStrictlySortedBy part_cmp parts.now }
-    requires ends { EndTogether parts.now }
-    requires places { HavePlaces recce.now parts.now }
-    requires k { k < length parts.now }
-    ensures { IsTrue result ↔ IsAlone recce.now ranking parts.now item k nothing }
+    requires k { found.first < length parts.now }
+    requires other { IsTrue found.other ↔ HasOtherStart recce.now parts.now item found.first }
+    ensures { IsTrue result ↔ IsAlone recce.now ranking parts.now item found.first nothing }
 {
     if nothing {
         return false;
     }
-    if has_other_whole(ranking, parts, k) {
+    if has_other_whole(ranking, parts, found.first) {
         return false;
     }
-    if has_other_start(recce, parts, item, k) {
+    if found.other {
         return false;
     }
     true
@@ -310,16 +432,15 @@ fn choose_at(
     ranking: Ranking,
     parts: &[Part],
     item: Item,
-    k: usize,
+    found: Found,
     nothing: bool,
 ) -> Chosen
     requires flat { IsFlatOf recce.now.flat w.now }
     requires rule { IsRule recce.now.flat item.rule }
-    requires sorted { IsStrictlySortedBy part_cmp parts.now }
-    requires ends { EndTogether parts.now }
-    requires places { HavePlaces recce.now parts.now }
-    requires k { k < length parts.now }
-    ensures { IsFirstOf recce.now (null_high w.now ranking recce.now item.rule) ranking parts.now item k nothing result }
+    requires k { found.first < length parts.now }
+    requires other { IsTrue found.other ↔ HasOtherStart recce.now parts.now item found.first }
+    ensures { IsFirstOf recce.now (null_high w.now ranking recce.now item.rule) ranking parts.now item found.first
+        nothing result }
 {
     if nothing && is_null_high(recce.flat(), w, item.rule) {
         return Chosen {
@@ -327,41 +448,61 @@ fn choose_at(
             alone: false,
         };
     }
-    let alone = is_alone(recce, ranking, parts, item, k, nothing);
+    let alone = is_alone(recce, ranking, parts, item, found, nothing);
     Chosen {
-        part: Some(parts[k]),
+        part: Some(parts[found.first]),
         alone,
     }
 }
 
-/// The cause of the first alternative of a node that spans something.
+/// The symbol of a node's last part.
+pub fn last_symbol(recce: &Recce<'_>, key: NodeKey) -> u32
+    requires rule { IsRule recce.now.flat key.rule }
+    requires some { 0 < key.dot }
+    requires dot { key.dot ≤ length (rhs_of recce.now.flat key.rule) }
+    ensures { part_of recce.now.flat key.rule (key.dot - 1) ≡ Some result }
+{
+    recce.flat().rhs(key.rule)[key.dot as usize - 1]
+}
+
+/// The cause of the first alternative of a node that spans something. The items that wait for the parts may be listed.
 pub fn choose(
     recce: &Recce<'_>,
     w: &Written,
     ranking: Ranking,
     parts: &[Part],
+    is_joined: bool,
+    joined: &[Joined],
+    symbol: u32,
     key: NodeKey,
 ) -> Chosen
     requires read { IsRead w.now recce.now }
     requires used { IsUsedIn w.now ranking recce.now key }
     requires spans { key.origin < key.end }
     requires listed { HaveLast w.now ranking recce.now key parts.now }
+    requires joined { AreJoinedIf is_joined recce.now parts.now joined.now }
+    requires symbol { part_of recce.now.flat key.rule (key.dot - 1) ≡ Some symbol }
     ensures chosen { IsChosen w.now ranking recce.now key result }
     ensures fits { IfSome result.part (λ p. Fits recce.now.flat key p) }
 {
+    let from = count_before(parts, symbol);
+    if is_only(recce, parts, symbol, from) {
+        return Chosen {
+            part: Some(parts[from]),
+            alone: true,
+        };
+    }
     let item = Item {
         rule: key.rule,
         dot: key.dot - 1,
         origin: key.origin,
     };
-    let symbol = recce.flat().rhs(key.rule)[item.dot as usize];
     let nothing = may_be_nothing(recce, key.end, item, symbol);
-    let from = count_before(parts, symbol);
-    match first_match(recce, parts, symbol, item, from) {
+    match find(recce, parts, is_joined, joined, symbol, item, from) {
         None => Chosen {
             part: None,
             alone: true,
         },
-        Some(k) => choose_at(recce, w, ranking, parts, item, k, nothing),
+        Some(found) => choose_at(recce, w, ranking, parts, item, found, nothing),
     }
 }

@@ -13,10 +13,13 @@ ghost use Rattle.bocage.specs.Expanded.{IsGivenIn};
 ghost use Rattle.bocage.specs.Given.{AreGivenFor};
 ghost use Rattle.bocage.specs.Walk.{IsRead, IsUsedIn};
 ghost use Rattle.first_walk.specs.Walk.{IsFirstDerivation};
+ghost use Rattle.first_walk.specs.Joined.{AreJoinedIf};
 ghost use Rattle.first_walk.specs.Place.{IsListedIn, IsAt, IsChosen, Fits, HasOther, AreFrom, reading_of};
 ghost use Rattle.first_walk.specs.Going.{backwards, parts_before, nothing_step, whole_key_of, whole_step, start_of, chosen_step, chosen_keys, IsWalking, IsUnderWay, IsAhead, AreAhead, IsGivenFrom, IsGivenTo, AreTo};
 
-use crate::place::{Chosen, Place, choose, is_listed, list_place, new_place};
+use crate::place::{
+    Chosen, Place, choose, is_listed, join_often_tried, last_symbol, list_place, new_place,
+};
 use earley_sets::Recce;
 use flat_steps::{FlatStep, write_steps};
 use forest_parts::{Given, Part};
@@ -193,10 +196,12 @@ fn come_to<L: Ledger>(
     requires spans { key.origin < key.end }
     requires ahead { IsAhead w.now ranking recce.now place.old.first key }
     requires listed { IsListedIn w.now ranking recce.now place.old.first place.old.parts.items }
+    requires joined { AreJoinedIf place.old.is_joined recce.now place.old.parts.items place.old.joined.items }
     requires given { AreGivenFor w.now ranking recce.now given.old }
     requires to { AreTo place.old.first given.old }
     ensures here { OnOk result (IsAt w.now ranking recce.now place.new.first key) }
     ensures listed { OnOk result (IsListedIn w.now ranking recce.now place.new.first place.new.parts.items) }
+    ensures joined { OnOk result (AreJoinedIf place.new.is_joined recce.now place.new.parts.items place.new.joined.items) }
     ensures given { OnOk result (AreGivenFor w.now ranking recce.now given.new) }
     ensures from { OnOk result (AreFrom key.end given.new) }
     ensures all { OnOk result (steps.new + items_in given.old ≡ steps.old + items_in given.new) }
@@ -227,12 +232,14 @@ fn choose_in<L: Ledger>(
     requires spans { key.origin < key.end }
     requires ahead { IsAhead w.now ranking recce.now place.old.first key }
     requires listed { IsListedIn w.now ranking recce.now place.old.first place.old.parts.items }
+    requires joined { AreJoinedIf place.old.is_joined recce.now place.old.parts.items place.old.joined.items }
     requires given { AreGivenFor w.now ranking recce.now given.old }
     requires to { AreTo place.old.first given.old }
     ensures chosen { IfOk result (λ c. IsChosen w.now ranking recce.now key c) }
     ensures fits { IfOk result (λ c. IfSome c.part (λ p. Fits recce.now.flat key p)) }
     ensures here { OnOk result (IsAt w.now ranking recce.now place.new.first key) }
     ensures listed { OnOk result (IsListedIn w.now ranking recce.now place.new.first place.new.parts.items) }
+    ensures joined { OnOk result (AreJoinedIf place.new.is_joined recce.now place.new.parts.items place.new.joined.items) }
     ensures given { OnOk result (AreGivenFor w.now ranking recce.now given.new) }
     ensures from { OnOk result (AreFrom key.end given.new) }
     ensures all { OnOk result (steps.new + items_in given.old ≡ steps.old + items_in given.new) }
@@ -241,7 +248,18 @@ fn choose_in<L: Ledger>(
         RisesWithin (IsGivenFrom w.now ranking recce.now key.end) start steps.new }
 {
     come_to(alloc, recce, w, ranking, key, place, given, steps)?;
-    Ok(choose(recce, w, ranking, &place.parts, key))
+    let symbol = last_symbol(recce, key);
+    join_often_tried(recce, symbol, place)?;
+    Ok(choose(
+        recce,
+        w,
+        ranking,
+        &place.parts,
+        place.is_joined,
+        &place.joined,
+        symbol,
+        key,
+    ))
 }
 
 // Goes on from a node that spans something.
@@ -262,11 +280,13 @@ fn go_spanning<L: Ledger>(
     requires walking { IsWalking w.now ranking recce.now (walk.old.goals.items ++ key ∷ []) walk.old }
     requires ahead { AreAhead w.now ranking recce.now place.old.first (walk.old.goals.items ++ key ∷ []) }
     requires listed { IsListedIn w.now ranking recce.now place.old.first place.old.parts.items }
+    requires joined { AreJoinedIf place.old.is_joined recce.now place.old.parts.items place.old.joined.items }
     requires given { AreGivenFor w.now ranking recce.now given.old }
     requires to { AreTo place.old.first given.old }
     ensures walking { OnOk result (IsWalking w.now ranking recce.now walk.new.goals.items walk.new) }
     ensures ahead { OnOk result (AreAhead w.now ranking recce.now place.new.first walk.new.goals.items) }
     ensures listed { OnOk result (IsListedIn w.now ranking recce.now place.new.first place.new.parts.items) }
+    ensures joined { OnOk result (AreJoinedIf place.new.is_joined recce.now place.new.parts.items place.new.joined.items) }
     ensures given { OnOk result (AreGivenFor w.now ranking recce.now given.new) }
     ensures to { OnOk result (AreTo place.new.first given.new) }
     ensures all { OnOk result (steps.new + items_in given.old ≡ steps.old + items_in given.new) }
@@ -326,11 +346,13 @@ fn go_from<L: Ledger>(
     requires walking { IsWalking w.now ranking recce.now (walk.old.goals.items ++ key ∷ []) walk.old }
     requires ahead { AreAhead w.now ranking recce.now place.old.first (walk.old.goals.items ++ key ∷ []) }
     requires listed { IsListedIn w.now ranking recce.now place.old.first place.old.parts.items }
+    requires joined { AreJoinedIf place.old.is_joined recce.now place.old.parts.items place.old.joined.items }
     requires given { AreGivenFor w.now ranking recce.now given.old }
     requires to { AreTo place.old.first given.old }
     ensures walking { OnOk result (IsWalking w.now ranking recce.now walk.new.goals.items walk.new) }
     ensures ahead { OnOk result (AreAhead w.now ranking recce.now place.new.first walk.new.goals.items) }
     ensures listed { OnOk result (IsListedIn w.now ranking recce.now place.new.first place.new.parts.items) }
+    ensures joined { OnOk result (AreJoinedIf place.new.is_joined recce.now place.new.parts.items place.new.joined.items) }
     ensures given { OnOk result (AreGivenFor w.now ranking recce.now given.new) }
     ensures to { OnOk result (AreTo place.new.first given.new) }
     ensures all { OnOk result (steps.new + items_in given.old ≡ steps.old + items_in given.new) }
@@ -373,6 +395,7 @@ fn go_on<L: Ledger>(
     requires walking { IsWalking w.now ranking recce.now walk.old.goals.items walk.old }
     requires ahead { AreAhead w.now ranking recce.now place.old.first walk.old.goals.items }
     requires listed { IsListedIn w.now ranking recce.now place.old.first place.old.parts.items }
+    requires joined { AreJoinedIf place.old.is_joined recce.now place.old.parts.items place.old.joined.items }
     requires given { AreGivenFor w.now ranking recce.now given.old }
     requires to { AreTo place.old.first given.old }
     requires begun { 0 < vec_len walk.old.steps }

@@ -8,15 +8,15 @@ returns-then-nothing c = (λ t. absurd (false≢true t), λ (a, b, e). absurd (t
 pub returns-then-has_other_whole : goal.returns-then-has_other_whole
 returns-then-has_other_whole c = (λ t. absurd (false≢true t), λ (a, b, e). absurd (b (c.has_other_whole.ensures.0 c.if-has_other_whole.true)))
 
-pub returns-then-has_other_start : goal.returns-then-has_other_start
-returns-then-has_other_start c = (λ t. absurd (false≢true t), λ (a, b, e). absurd (e (c.has_other_start.ensures.0 c.if-has_other_start.true)))
+pub returns-then-found : goal.returns-then-found
+returns-then-found c = (λ t. absurd (false≢true t), λ (a, b, e). absurd (e (c.requires.other.0 c.if-found.true)))
 
 pub returns : goal.returns
 returns c = (
   λ t. (
     c.if-nothing.false,
     λ h. true≢false (sym (c.has_other_whole.ensures.1 h) ∙ c.if-has_other_whole.false),
-    λ h. true≢false (sym (c.has_other_start.ensures.1 h) ∙ c.if-has_other_start.false),
+    λ h. true≢false (sym (c.requires.other.1 h) ∙ c.if-found.false),
   ),
   λ h. refl,
 )

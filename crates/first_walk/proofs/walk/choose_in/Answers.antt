@@ -1,10 +1,24 @@
-use Rattle.std.proofs.Common.{List, sym, subst}
+use Rattle.std.proofs.Common.{◌≡◌, ◌<◌, ◌≤◌, List, length, refl, sym, ◌∙◌, ap, subst}
 use Rattle.forest_parts.specs.declared.parts.Part.{Part}
+use Rattle.bocage.proofs.Splits.{used_within}
 use Rattle.first_walk.specs.Place.{HaveLast}
+use Rattle.first_walk.proofs.Choices.{have_places}
 use Rattle.first_walk.proofs.Coming.{last_at}
 use Rattle.first_walk.proofs.walk.choose_in.Goals as goal
+
+pub last_symbol-symbol-requires-clause-rule : goal.last_symbol-symbol-requires-clause-rule
+last_symbol-symbol-requires-clause-rule g c = (used_within c.args.w.now c.args.ranking c.args.recce.now c.requires.read c.args.key c.requires.used).is_rule
+
+pub last_symbol-symbol-requires-clause-dot : goal.last_symbol-symbol-requires-clause-dot
+last_symbol-symbol-requires-clause-dot g c = (used_within c.args.w.now c.args.ranking c.args.recce.now c.requires.read c.args.key c.requires.used).parts
+
+pub join_often_tried-requires-clause-places : goal.join_often_tried-requires-clause-places
+join_often_tried-requires-clause-places g c =
+    have_places c.args.w.now c.args.ranking c.args.recce.now c.requires.read c.args.key c.requires.used _ refl c.come_to.new.place.parts.items
+    (last_at c.args.w.now c.args.ranking c.args.recce.now c.requires.read c.args.key c.requires.used c.come_to.new.place.first c.come_to.new.place.parts.items c.in_ok-come_to.ensures.listed c.in_ok-come_to.ensures.here)
 
 pub choose-requires-clause-listed : goal.choose-requires-clause-listed
 choose-requires-clause-listed g c =
     subst (λ (l : List Part). HaveLast c.args.w.now c.args.ranking c.args.recce.now c.args.key l) (sym c.deref.ensures.value)
-    (last_at c.args.w.now c.args.ranking c.args.recce.now c.requires.read c.args.key c.requires.used c.come_to.new.place.first c.come_to.new.place.parts.items c.in_ok-come_to.ensures.listed c.in_ok-come_to.ensures.here)
+    (subst (λ (l : List Part). HaveLast c.args.w.now c.args.ranking c.args.recce.now c.args.key l) (sym (ap (λ v. v.items) c.in_ok-join_often_tried.ensures.parts))
+    (last_at c.args.w.now c.args.ranking c.args.recce.now c.requires.read c.args.key c.requires.used c.come_to.new.place.first c.come_to.new.place.parts.items c.in_ok-come_to.ensures.listed c.in_ok-come_to.ensures.here))

@@ -1,5 +1,5 @@
 use Rattle.std.proofs.Common.{Option, sym, ◌∙◌, subst}
-use Rattle.std.proofs.lemmas.Bool.{true≢false}
+use Rattle.std.proofs.lemmas.Bool.{true≢false, false≢true}
 use Rattle.recognizer_model.specs.declared.NodeKey.{NodeKey}
 use Rattle.first_walk.specs.Place.{IsListedIn}
 use Rattle.first_walk.proofs.Coming.{comes_earlier, first_under, later_under}
@@ -47,3 +47,6 @@ returns-clause-here g c = (
 pub returns-clause-listed : goal.returns-clause-listed
 returns-clause-listed g c =
     subst (λ (o : Option NodeKey). IsListedIn c.args.w.now c.args.ranking c.args.recce.now o c.list_place.new.place.parts.items) (sym c.in_ok-list_place.ensures.first) c.in_ok-list_place.ensures.listed
+
+pub returns-clause-joined : goal.returns-clause-joined
+returns-clause-joined g c t = absurd (false≢true (sym c.in_ok-list_place.ensures.joined ∙ t))

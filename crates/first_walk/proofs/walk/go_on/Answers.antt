@@ -34,6 +34,7 @@ loop-count-preserved g c = record {
   walking = c.in_ok-go_from.ensures.walking;
   ahead = c.in_ok-go_from.ensures.ahead;
   listed = c.in_ok-go_from.ensures.listed;
+  joined = c.in_ok-go_from.ensures.joined;
   given = c.in_ok-go_from.ensures.given;
   to = c.in_ok-go_from.ensures.to;
   all = (let a = c.in_ok-go_from.ensures.all in let b = c.loop-count.invariant.all in omega arith);
