@@ -67,11 +67,10 @@ fn put_note(notes: &mut Vec<Note>, kind: usize, note: Note) -> Result<(), AllocE
 
 // Sets a hint, if there is memory for it.
 fn put_hint(hints: &mut Vec<usize>, kind: usize, hint: usize) {
-    if kind < hints.len() {
-        hints[kind] = hint;
-    } else if kind == hints.len() && kind < KINDS {
-        let _ = hints.push(hint);
+    if kind >= KINDS || kind >= hints.len() && hints.resize(kind + 1, 0).is_err() {
+        return;
     }
+    hints[kind] = hint;
 }
 
 impl Notes {
