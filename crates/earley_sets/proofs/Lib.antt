@@ -13,7 +13,6 @@ pub mod Scanning
 pub mod Rising
 pub mod Trying
 pub mod Making
-pub mod Expecting
 pub mod Splitting
 pub mod Nulling
 pub mod Hiding

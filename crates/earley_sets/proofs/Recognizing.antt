@@ -35,7 +35,7 @@ use Rattle.recognizer_model.specs.Links.{Link, IsLink}
 use Rattle.recognizer_model.specs.Invariant.{IsFlat}
 use Rattle.item_rows.specs.Rows.{ItemRows, row_at}
 use Rattle.earley_sets.specs.Kept.{AreRows, IsRowOf, IsAwaited}
-use Rattle.item_rows.specs.Marks.{IsAwaitedTerminal}
+use Rattle.expected_terminals.specs.Marks.{IsAwaitedTerminal}
 use Rattle.recognizer_model.proofs.Leo.{reduced_inside, keeps_waiting}
 use Rattle.recognizer_model.proofs.Over.{AgreeTo, agree_back, same_leo, same_reduced, top_kept}
 use Rattle.recognizer_model.specs.declared.Pair.{Pair}

@@ -1,5 +1,4 @@
 pub mod Kept
-pub mod Expected
 pub mod Closing
 pub mod Begun
 pub mod Scanning

@@ -18,7 +18,7 @@ use Rattle.recognizer_model.specs.Leo.{InReduced}
 use Rattle.recognizer_model.specs.Links as model
 use Rattle.recognizer_model.specs.Counts.{IsListOf}
 use Rattle.item_rows.specs.Kept.{AreRows}
-use Rattle.item_rows.specs.Marks.{IsAwaitedTerminal}
+use Rattle.expected_terminals.specs.Marks.{IsAwaitedTerminal}
 use Rattle.leo_items.specs.Memo.{Note}
 use Rattle.leo_items.specs.ByRows.{IsMemo}
 

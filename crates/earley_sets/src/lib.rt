@@ -4,7 +4,6 @@
 mod awaited;
 mod begun;
 mod close;
-mod expected;
 mod follow;
 mod lists;
 mod recce;

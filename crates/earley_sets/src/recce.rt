@@ -22,10 +22,10 @@ ghost use Rattle.earley_sets.specs.Recognizer.{Recognizer, earleme_of, set_at, e
 ghost use Rattle.earley_sets.specs.declared.recce.AlternativeRefusal.TheVariants.{Unexpected, Duplicate, BadLength};
 
 use crate::close::{Work, make_kernel};
-use crate::expected::{
+use crate::lists::{Lists, find_list, new_lists};
+use expected_terminals::{
     Expected, copy_of, expect_row, forget, has_terminal, new_expected, place_alike, terminals,
 };
-use crate::lists::{Lists, find_list, new_lists};
 use grammar_core::{EdgeRefusal, Flat, SymbolId, TokenEdges};
 use item_rows::{Heads, Row, Rows, list_heads, symbol_of};
 use leo_items::{Memo, list_below, list_hidden, some_steps_twice, top_above};
@@ -236,7 +236,7 @@ impl<'g> Model for Recce<'g> {
     ghost use Rattle.earley_sets.specs.Recognizer.{Recognizer, IsKept};
     ghost use Rattle.item_rows.specs.Heads.{AreHeads};
     ghost use Rattle.earley_sets.specs.Begun.{AreLists};
-    ghost use Rattle.earley_sets.specs.Expected.{KnowsLast};
+    ghost use Rattle.expected_terminals.specs.Expected.{KnowsLast};
 
     ghost Value = { Recognizer };
 

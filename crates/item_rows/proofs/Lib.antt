@@ -2,7 +2,7 @@ pub mod Holding
 pub mod Items
 pub mod Joined
 pub mod Listed
-pub mod Marking
+pub mod Terminals
 pub mod Ordered
 pub mod Packing
 pub mod Placing

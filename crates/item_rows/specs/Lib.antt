@@ -3,5 +3,4 @@ pub mod Order
 pub mod Kept
 pub mod Dotted
 pub mod Held
-pub mod Marks
 pub mod Heads

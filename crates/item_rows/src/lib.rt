@@ -4,12 +4,10 @@
 
 mod dotted;
 mod heads;
-mod marks;
 mod order;
 mod packed;
 mod rows;
 
 pub use heads::{Heads, Rules, list_heads, rules_of, symbol_of};
-pub use marks::{Marks, mark_row, new_marks, take_marks};
 pub use packed::Row;
 pub use rows::Rows;

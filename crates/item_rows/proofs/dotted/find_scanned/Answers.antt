@@ -1,5 +1,5 @@
 use Rattle.std.proofs.Common.{arith}
-use Rattle.item_rows.proofs.Marking.{terminal_span}
+use Rattle.item_rows.proofs.Terminals.{terminal_span}
 use Rattle.item_rows.proofs.dotted.find_scanned.Goals as goal
 
 pub returns : goal.returns

@@ -1,7 +1,7 @@
 use Rattle.std.proofs.Common.{◌≡◌, inl, inr, subst, arith}
 use Rattle.std.proofs.lemmas.Bool.{cases_lt}
 use Rattle.item_rows.specs.Kept.{StandsForTerminal}
-use Rattle.item_rows.proofs.Marking.{terminals_end, no_terminal_past}
+use Rattle.item_rows.proofs.Terminals.{terminals_end, no_terminal_past}
 use Rattle.item_rows.proofs.dotted.terminal_count.Goals as goal
 
 pub returns-then-not-is_terminal-clause-exact : goal.returns-then-not-is_terminal-clause-exact

@@ -1,7 +1,7 @@
 use Rattle.std.proofs.Common.{◌≡◌, ◌↔◌, ◌-◌, ◌∙◌, length, refl, sym, ap, subst, arith}
-use Rattle.earley_sets.specs.Expected.{place_told}
+use Rattle.expected_terminals.specs.Expected.{place_told}
 use Rattle.earley_sets.specs.Recognizer.{Recognizer, WaitsAt, IsExpected, earleme_of}
-use Rattle.earley_sets.proofs.Expecting.{place_there, place_waits}
+use Rattle.expected_terminals.proofs.Expecting.{place_there, place_waits}
 use Rattle.earley_sets.proofs.Recognizing.{listed_expected}
 use Rattle.earley_sets.proofs.recce.Recce.alike.Goals as goal
 

@@ -6,8 +6,8 @@ use Rattle.std.specs.List.{AllPairs}
 use Rattle.recognizer_model.specs.Links.{Link, IsLink}
 use Rattle.leo_items.specs.Memo.{pairs_of}
 use Rattle.earley_sets.specs.Recognizer.{Recognizer, edges_of, top_of, made}
-use Rattle.earley_sets.specs.Expected.{KnowsLast}
-use Rattle.earley_sets.proofs.Expecting.{row_longer, most_more, notes_still}
+use Rattle.expected_terminals.specs.Expected.{KnowsLast}
+use Rattle.expected_terminals.proofs.Expecting.{row_longer, most_more, notes_still}
 use Rattle.earley_sets.proofs.Recognizing.{kept_top, kept_sets, kept_begun, add_kept, added_set, tried_links}
 use Rattle.earley_sets.proofs.recce.Recce.complete_earleme.Goals as goal
 

@@ -1,9 +1,9 @@
 use Rattle.std.proofs.Common.{◌↔◌, ◌<◌, ◌-◌, ℕ, List, length, sym, ◌∙◌, subst}
 use Rattle.std.specs.List.{AllPairs}
 use Rattle.item_rows.specs.Rows.{row_at}
-use Rattle.item_rows.specs.Marks.{IsAwaitedTerminal}
+use Rattle.expected_terminals.specs.Marks.{IsAwaitedTerminal}
 use Rattle.earley_sets.specs.Recognizer.{Recognizer, IsExpected}
-use Rattle.earley_sets.proofs.Expecting.{expected_of}
+use Rattle.expected_terminals.proofs.Expecting.{expected_of}
 use Rattle.earley_sets.proofs.Recognizing.{listed_expected}
 use Rattle.std.proofs.lemmas.Result.{IfOk-weaker}
 use Rattle.std.specs.declared.vec.Vec.{Vec}

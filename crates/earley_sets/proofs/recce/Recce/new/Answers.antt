@@ -5,7 +5,7 @@ use Rattle.grammar_model.specs.Derives.{Held}
 use Rattle.recognizer_model.specs.Counts.{IsListOf}
 use Rattle.recognizer_model.specs.FlatForm.{FlatEdges}
 use Rattle.recognizer_model.specs.Leo.{InReduced}
-use Rattle.earley_sets.proofs.Expecting.{no_notes, one_row}
+use Rattle.expected_terminals.proofs.Expecting.{no_notes, one_row}
 use Rattle.earley_sets.proofs.Recognizing.{first_kept, top_is_top}
 use Rattle.earley_sets.proofs.recce.Recce.new.Goals as goal
 

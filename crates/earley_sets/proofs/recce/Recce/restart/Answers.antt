@@ -3,7 +3,7 @@ use Rattle.recognizer_model.specs.declared.Item.{Item}
 use Rattle.item_rows.specs.Rows.{ItemRows, row_at}
 use Rattle.earley_sets.specs.Begun.{AreLists}
 use Rattle.earley_sets.specs.Recognizer.{Recognizer, set_at}
-use Rattle.earley_sets.proofs.Expecting.{no_notes, one_row, room_stays}
+use Rattle.expected_terminals.proofs.Expecting.{no_notes, one_row, room_stays}
 use Rattle.earley_sets.proofs.Recognizing.{first_there, restarted}
 use Rattle.earley_sets.proofs.recce.Recce.restart.Goals as goal
 
