@@ -16,6 +16,9 @@ use std::alloc::{AllocError, Global};
 // Of so many shapes the lists are kept.
 const KINDS: u32 = 4096;
 
+// So many terminals at most have the lists together, were all as long as the last one.
+const TERMINALS: usize = 1 << 20;
+
 /// A place, and the number of a list: the terminals that its set waits for.
 #[derive(Clone, Copy)]
 pub struct Note {
@@ -110,14 +113,14 @@ fn make_room(notes: &mut Vec<Option<Note>>, kind: u32) -> Result<(), AllocError>
     Ok(())
 }
 
-// Keeps a list, and tells its number, if there are few lists and memory is there.
+// Keeps a list, and tells its number, if there are few lists, or short ones, and memory is there.
 fn keep_list(lists: &mut Jagged<SymbolId>, terminals: &[SymbolId]) -> Option<u32>
     ensures some { IfSome result (λ k. (k ≡ length lists.old) ×
         (lists.new ≡ lists.old ++ terminals.now ∷ [])) }
     ensures none { IsNone result → lists.new ≡ lists.old }
 {
     let count = lists.len();
-    if count >= KINDS as usize {
+    if count >= KINDS as usize || count.saturating_mul(terminals.len()) > TERMINALS {
         return None;
     }
     match lists.push(terminals) {
