@@ -16,3 +16,4 @@ pub mod Coming
 pub mod JoinedOrder
 pub mod JoinedFound
 pub mod Only
+pub mod NearTops

@@ -3,6 +3,7 @@
 
 mod joined;
 mod laws;
+mod near;
 mod place;
 mod walk;
 

@@ -21,6 +21,7 @@ ghost use Rattle.first_walk.specs.Joined.{AreJoinedIf, IsFound};
 ghost use Rattle.first_walk.specs.Place.{IsListed, HaveLast, IsNoted, AreFrom, EndTogether, HavePlaces, IsFrom, IsFirstMatch, HasNoMatch, HasOtherStart, HasOtherWhole, IsOnly, IsAlone, IsFirstOf, IsChosen, Fits, null_high};
 
 use crate::joined::{Found, Joined, find_joined, list_joined};
+use crate::near::{are_near, list_tops};
 use earley_sets::Recce;
 use forest_parts::{Given, NodeKeys, Part, is_null_high, list_needed, list_parts};
 use grammar_core::Written;
@@ -95,7 +96,8 @@ fn keep_one(keys: &mut NodeKeys, key: NodeKey) -> Result<(), AllocFailed<NodeKey
     Ok(())
 }
 
-// Brings back the hidden items that a node asks for where it ends, and that begin no earlier.
+// Brings back the hidden items that a node asks for where it ends, and that begin no earlier: all below the topmost ones, where these are
+// near the node, and else those that a walk up from each tells.
 fn ask<L: Ledger>(
     alloc: Global,
     recce: &Recce<'_>,
@@ -114,6 +116,20 @@ fn ask<L: Ledger>(
     ensures counted { RisesWithin (IsBelowAsked w.now ranking recce.now (first ∷ []) first.end first.origin)
         steps.old steps.new }
 {
+    place.tops.clear();
+    if !recce.may_hide(first.end, first.origin) {
+        return Ok(Vec::new(alloc));
+    }
+    list_tops(
+        recce,
+        first.end,
+        first.origin,
+        &mut place.tops,
+        &mut place.bottoms,
+    )?;
+    if are_near(recce, ranking, first, &place.tops) {
+        return recce.below(alloc, first.end, &place.tops, &place.bottoms, steps);
+    }
     keep_one(&mut place.keys, first)?;
     list_needed(
         alloc,
