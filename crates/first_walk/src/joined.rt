@@ -122,8 +122,10 @@ fn has_item(joined: Joined, item: Item) -> bool
 fn count_before(joined: &[Joined], item: Item) -> usize
     requires { IsStrictlySortedBy joined_cmp joined.now }
     ensures bound { result ≤ length joined.now }
-    ensures before { (k : ℕ) (j : TheJoined) → k < result → slice_get joined.now k ≡ Some j → before_item item j ≡ true }
-    ensures behind { (k : ℕ) (j : TheJoined) → result ≤ k → slice_get joined.now k ≡ Some j → before_item item j ≡ false }
+    ensures before { (k : ℕ) (j : TheJoined) → k < result → slice_get joined.now k ≡ Some j →
+        before_item item j ≡ true }
+    ensures behind { (k : ℕ) (j : TheJoined) → result ≤ k → slice_get joined.now k ≡ Some j →
+        before_item item j ≡ false }
 {
     joined.partition_point(|one| is_before(*one, item))
 }
@@ -133,7 +135,8 @@ fn end_of_item(joined: &[Joined], first: usize, item: Item) -> usize
     requires { first ≤ length joined.now }
     ensures order { first ≤ result }
     ensures bound { result ≤ length joined.now }
-    ensures same { (k : ℕ) (j : TheJoined) → first ≤ k → k < result → slice_get joined.now k ≡ Some j → item_of_joined j ≡ item }
+    ensures same { (k : ℕ) (j : TheJoined) → first ≤ k → k < result → slice_get joined.now k ≡ Some j →
+        item_of_joined j ≡ item }
     ensures other { (j : TheJoined) → slice_get joined.now result ≡ Some j → ¬ (item_of_joined j ≡ item) }
 {
     for past in first..joined.len() {
@@ -148,7 +151,8 @@ fn end_of_item(joined: &[Joined], first: usize, item: Item) -> usize
 fn joined_of(joined: &[Joined], item: Item) -> &[Joined]
     requires { IsStrictlySortedBy joined_cmp joined.now }
     ensures sorted { IsStrictlySortedBy joined_cmp result.now }
-    ensures exact { (j : TheJoined) → Contains result.now j ↔ (Contains joined.now j × (item_of_joined j ≡ item)) }
+    ensures exact { (j : TheJoined) →
+        Contains result.now j ↔ (Contains joined.now j × (item_of_joined j ≡ item)) }
 {
     let first = count_before(joined, item);
     let past = end_of_item(joined, first, item);

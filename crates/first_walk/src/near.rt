@@ -30,7 +30,8 @@ fn put_top(
     ensures tops { OnOk result ((x : TheItem) → Contains tops.new.items x ↔
         (Contains tops.old.items x ⊎ LeadsOver recce.now [] end least item x)) }
     ensures bottoms { OnOk result ((x : TheItem) → Contains bottoms.new.items x ↔
-        (Contains bottoms.old.items x ⊎ ((x ≡ item) × ((top : TheItem) × LeadsOver recce.now [] end least item top)))) }
+        (Contains bottoms.old.items x ⊎ ((x ≡ item) ×
+        ((top : TheItem) × LeadsOver recce.now [] end least item top)))) }
 {
     if let Some(top) = recce.topmost(end, item) {
         if least <= top.origin {
@@ -83,7 +84,8 @@ fn is_next_of(first: NodeKey, item: Item) -> bool
 fn is_waited_for(recce: &Recce<'_>, first: NodeKey, item: Item) -> bool
     requires rule { IsRule recce.now.flat item.rule }
     requires origin { item.origin ≤ earleme_of recce.now }
-    ensures { IsTrue result → (other : TheItem) × IsAwaiting recce.now item other × (first ≡ node_of other first.end) }
+    ensures { IsTrue result →
+        (other : TheItem) × IsAwaiting recce.now item other × (first ≡ node_of other first.end) }
 {
     let waiting = recce.waiting(item.origin, recce.flat().lhs(item.rule));
     for k in 0..waiting.len() {
@@ -103,7 +105,8 @@ fn is_whole(recce: &Recce<'_>, item: Item) -> bool
 
 // Whether the ranking leaves no item out.
 fn never_outranks(ranking: Ranking) -> bool
-    ensures { IsTrue result → (w : TheGrammar) (r : TheRecognizer) (end : ℕ) (item : TheItem) → ¬ IsOutranked w ranking r end item }
+    ensures { IsTrue result → (w : TheGrammar) (r : TheRecognizer) (end : ℕ) (item : TheItem) →
+        ¬ IsOutranked w ranking r end item }
 {
     match ranking {
         Ranking::None => true,
@@ -135,7 +138,8 @@ fn is_near(recce: &Recce<'_>, ranking: Ranking, first: NodeKey, top: Item) -> bo
 pub fn are_near(recce: &Recce<'_>, ranking: Ranking, first: NodeKey, tops: &[Item]) -> bool
     requires is { IsRecognizer recce.now }
     requires end { first.end ≤ earleme_of recce.now }
-    requires tops { (top : TheItem) → Contains tops.now top → (item : TheItem) × LeadsUp recce.now first.end item top }
+    requires tops { (top : TheItem) → Contains tops.now top →
+        (item : TheItem) × LeadsUp recce.now first.end item top }
     ensures { IsTrue result → (w : TheGrammar) (top : TheItem) → Contains tops.now top →
         IsAskedFor w ranking recce.now (first ∷ []) first.end top }
 {

@@ -222,10 +222,12 @@ fn is_often_tried(parts: &[Part], symbol: u32, tried: &mut usize) -> bool {
 /// Lists the items that wait for the parts of a place, where these are many and are tried again and again.
 pub fn join_often_tried(recce: &Recce<'_>, symbol: u32, place: &mut Place) -> Result<(), AllocError>
     requires places { HavePlaces recce.now place.old.parts.items }
-    requires joined { AreJoinedIf place.old.is_joined recce.now place.old.parts.items place.old.joined.items }
+    requires joined { AreJoinedIf place.old.is_joined recce.now place.old.parts.items
+        place.old.joined.items }
     ensures first { place.new.first ≡ place.old.first }
     ensures parts { place.new.parts ≡ place.old.parts }
-    ensures joined { OnOk result (AreJoinedIf place.new.is_joined recce.now place.new.parts.items place.new.joined.items) }
+    ensures joined { OnOk result (AreJoinedIf place.new.is_joined recce.now place.new.parts.items
+        place.new.joined.items) }
 {
     if place.is_joined || !is_often_tried(&place.parts, symbol, &mut place.tried) {
         return Ok(());

@@ -196,12 +196,14 @@ fn come_to<L: Ledger>(
     requires spans { key.origin < key.end }
     requires ahead { IsAhead w.now ranking recce.now place.old.first key }
     requires listed { IsListedIn w.now ranking recce.now place.old.first place.old.parts.items }
-    requires joined { AreJoinedIf place.old.is_joined recce.now place.old.parts.items place.old.joined.items }
+    requires joined { AreJoinedIf place.old.is_joined recce.now place.old.parts.items
+        place.old.joined.items }
     requires given { AreGivenFor w.now ranking recce.now given.old }
     requires to { AreTo place.old.first given.old }
     ensures here { OnOk result (IsAt w.now ranking recce.now place.new.first key) }
     ensures listed { OnOk result (IsListedIn w.now ranking recce.now place.new.first place.new.parts.items) }
-    ensures joined { OnOk result (AreJoinedIf place.new.is_joined recce.now place.new.parts.items place.new.joined.items) }
+    ensures joined { OnOk result (AreJoinedIf place.new.is_joined recce.now place.new.parts.items
+        place.new.joined.items) }
     ensures given { OnOk result (AreGivenFor w.now ranking recce.now given.new) }
     ensures from { OnOk result (AreFrom key.end given.new) }
     ensures all { OnOk result (steps.new + items_in given.old ≡ steps.old + items_in given.new) }
@@ -232,14 +234,16 @@ fn choose_in<L: Ledger>(
     requires spans { key.origin < key.end }
     requires ahead { IsAhead w.now ranking recce.now place.old.first key }
     requires listed { IsListedIn w.now ranking recce.now place.old.first place.old.parts.items }
-    requires joined { AreJoinedIf place.old.is_joined recce.now place.old.parts.items place.old.joined.items }
+    requires joined { AreJoinedIf place.old.is_joined recce.now place.old.parts.items
+        place.old.joined.items }
     requires given { AreGivenFor w.now ranking recce.now given.old }
     requires to { AreTo place.old.first given.old }
     ensures chosen { IfOk result (λ c. IsChosen w.now ranking recce.now key c) }
     ensures fits { IfOk result (λ c. IfSome c.part (λ p. Fits recce.now.flat key p)) }
     ensures here { OnOk result (IsAt w.now ranking recce.now place.new.first key) }
     ensures listed { OnOk result (IsListedIn w.now ranking recce.now place.new.first place.new.parts.items) }
-    ensures joined { OnOk result (AreJoinedIf place.new.is_joined recce.now place.new.parts.items place.new.joined.items) }
+    ensures joined { OnOk result (AreJoinedIf place.new.is_joined recce.now place.new.parts.items
+        place.new.joined.items) }
     ensures given { OnOk result (AreGivenFor w.now ranking recce.now given.new) }
     ensures from { OnOk result (AreFrom key.end given.new) }
     ensures all { OnOk result (steps.new + items_in given.old ≡ steps.old + items_in given.new) }
@@ -280,13 +284,15 @@ fn go_spanning<L: Ledger>(
     requires walking { IsWalking w.now ranking recce.now (walk.old.goals.items ++ key ∷ []) walk.old }
     requires ahead { AreAhead w.now ranking recce.now place.old.first (walk.old.goals.items ++ key ∷ []) }
     requires listed { IsListedIn w.now ranking recce.now place.old.first place.old.parts.items }
-    requires joined { AreJoinedIf place.old.is_joined recce.now place.old.parts.items place.old.joined.items }
+    requires joined { AreJoinedIf place.old.is_joined recce.now place.old.parts.items
+        place.old.joined.items }
     requires given { AreGivenFor w.now ranking recce.now given.old }
     requires to { AreTo place.old.first given.old }
     ensures walking { OnOk result (IsWalking w.now ranking recce.now walk.new.goals.items walk.new) }
     ensures ahead { OnOk result (AreAhead w.now ranking recce.now place.new.first walk.new.goals.items) }
     ensures listed { OnOk result (IsListedIn w.now ranking recce.now place.new.first place.new.parts.items) }
-    ensures joined { OnOk result (AreJoinedIf place.new.is_joined recce.now place.new.parts.items place.new.joined.items) }
+    ensures joined { OnOk result (AreJoinedIf place.new.is_joined recce.now place.new.parts.items
+        place.new.joined.items) }
     ensures given { OnOk result (AreGivenFor w.now ranking recce.now given.new) }
     ensures to { OnOk result (AreTo place.new.first given.new) }
     ensures all { OnOk result (steps.new + items_in given.old ≡ steps.old + items_in given.new) }
@@ -346,13 +352,15 @@ fn go_from<L: Ledger>(
     requires walking { IsWalking w.now ranking recce.now (walk.old.goals.items ++ key ∷ []) walk.old }
     requires ahead { AreAhead w.now ranking recce.now place.old.first (walk.old.goals.items ++ key ∷ []) }
     requires listed { IsListedIn w.now ranking recce.now place.old.first place.old.parts.items }
-    requires joined { AreJoinedIf place.old.is_joined recce.now place.old.parts.items place.old.joined.items }
+    requires joined { AreJoinedIf place.old.is_joined recce.now place.old.parts.items
+        place.old.joined.items }
     requires given { AreGivenFor w.now ranking recce.now given.old }
     requires to { AreTo place.old.first given.old }
     ensures walking { OnOk result (IsWalking w.now ranking recce.now walk.new.goals.items walk.new) }
     ensures ahead { OnOk result (AreAhead w.now ranking recce.now place.new.first walk.new.goals.items) }
     ensures listed { OnOk result (IsListedIn w.now ranking recce.now place.new.first place.new.parts.items) }
-    ensures joined { OnOk result (AreJoinedIf place.new.is_joined recce.now place.new.parts.items place.new.joined.items) }
+    ensures joined { OnOk result (AreJoinedIf place.new.is_joined recce.now place.new.parts.items
+        place.new.joined.items) }
     ensures given { OnOk result (AreGivenFor w.now ranking recce.now given.new) }
     ensures to { OnOk result (AreTo place.new.first given.new) }
     ensures all { OnOk result (steps.new + items_in given.old ≡ steps.old + items_in given.new) }
@@ -395,7 +403,8 @@ fn go_on<L: Ledger>(
     requires walking { IsWalking w.now ranking recce.now walk.old.goals.items walk.old }
     requires ahead { AreAhead w.now ranking recce.now place.old.first walk.old.goals.items }
     requires listed { IsListedIn w.now ranking recce.now place.old.first place.old.parts.items }
-    requires joined { AreJoinedIf place.old.is_joined recce.now place.old.parts.items place.old.joined.items }
+    requires joined { AreJoinedIf place.old.is_joined recce.now place.old.parts.items
+        place.old.joined.items }
     requires given { AreGivenFor w.now ranking recce.now given.old }
     requires to { AreTo place.old.first given.old }
     requires begun { 0 < vec_len walk.old.steps }
