@@ -1,11 +1,11 @@
 //! Tells what is likely to be a mistake in a grammar that may well be accepted: each with its line, its column and one sentence.
 #![tactic(auto)]
 
-mod brackets;
 mod hint;
 mod hints;
 mod nullable;
 mod operators;
+mod sides;
 mod spellings;
 mod stop;
 mod telling;

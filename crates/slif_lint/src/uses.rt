@@ -1,8 +1,82 @@
 // Lexical rules that nothing uses.
+ghost use Rattle.std.specs.Prelude.{◌≡◌, ◌++◌, ◌&&◌, ◌||◌, not, [], ℕ, List, IfOk, OnOk, map, flat_map, bytes_eq};
+ghost use Rattle.std.specs.List.{list_any};
+ghost use Rattle.dsl_statement.specs.Statements.{statement_of, statements_of};
+ghost use Rattle.slif_lint.specs.Hints.{hint_of};
+ghost use Rattle.slif_lint.specs.Uses as found;
+ghost use Rattle.slif_lint.specs.Uses.{use_of, uses_of, is_used, unused_hints};
+ghost use Rattle.slif_lint.specs.Found.{has};
+
 use crate::hint::{Fault, Hint};
-use dsl_statement::{Adverb, Alternative, Element, Level, Spelled, Statement, TokenKind};
+use crate::sides::{left_name, left_of, push_right};
+use crate::spellings::push_if;
+use dsl_statement::{Spelled, Statement, TokenKind};
 use std::alloc::{AllocError, Global};
 use std::collections::HashMap;
+
+/// Whether a part is a name, and not this one.
+fn is_other(part: &Spelled, left: &str) -> bool
+    ensures { result ≡ found.is_other left.now part.now }
+{
+    match part.kind {
+        TokenKind::Word | TokenKind::Angle => part.content.as_str() != left,
+        _ => false,
+    }
+}
+
+fn push_use<'d>(
+    left: &str,
+    part: &'d Spelled,
+    names: &mut Vec<&'d str>,
+) -> Result<(), AllocError>
+    ensures { OnOk result (map (λ n. n.now) names.new.items ≡ map (λ n. n.now) names.old.items ++
+        use_of left.now part.now) }
+{
+    if is_other(part, left) {
+        names.push(part.content.as_str())?;
+    }
+    Ok(())
+}
+
+fn push_uses_in<'d>(
+    left: &str,
+    parts: &[&'d Spelled],
+    names: &mut Vec<&'d str>,
+) -> Result<(), AllocError>
+    ensures { OnOk result (map (λ n. n.now) names.new.items ≡ map (λ n. n.now) names.old.items ++
+        flat_map (use_of left.now) (map (λ t. t.now) parts.now)) }
+{
+    for part in parts {
+        push_use(left, *part, names)?;
+    }
+    Ok(())
+}
+
+/// Appends the names on the right side of a statement that are not its left side.
+fn push_uses<'d>(
+    alloc: Global,
+    statement: &'d Statement,
+    names: &mut Vec<&'d str>,
+) -> Result<(), AllocError>
+    ensures { OnOk result (map (λ n. n.now) names.new.items ≡ map (λ n. n.now) names.old.items ++
+        uses_of (statement_of statement.now)) }
+{
+    let mut parts = Vec::new(alloc);
+    push_right(statement, &mut parts)?;
+    push_uses_in(left_name(statement), &parts, names)
+}
+
+/// The uses of all statements.
+fn uses_in(alloc: Global, statements: &[Statement]) -> Result<Vec<&str>, AllocError>
+    ensures { IfOk result (λ names. map (λ n. n.now) names.items ≡ flat_map uses_of
+        (statements_of statements.now)) }
+{
+    let mut names = Vec::new(alloc);
+    for statement in statements {
+        push_uses(alloc, statement, &mut names)?;
+    }
+    Ok(names)
+}
 
 /// Names, each with whether it is among those that are used.
 #[derive(Drop)]
@@ -11,101 +85,90 @@ struct Names<'d> {
 }
 
 impl<'d> Names<'d> {
-    /// Takes a part of a rule of this left side as a use of it, if it is another name.
-    fn add(&mut self, part: &'d Spelled, left: &str) -> Result<(), AllocError> {
-        let name = part.content.as_str();
-        match part.kind {
-            TokenKind::Word | TokenKind::Angle if name != left => {
-                self.used.insert(name, true)?;
-                Ok(())
-            }
-            _ => Ok(()),
-        }
+    fn has(&self, name: &str) -> bool
+        ensures { result ≡ has self.now name.now }
+    {
+        self.used.contains_key(&name)
     }
 
-    fn add_element(&mut self, element: &'d Element, left: &str) -> Result<(), AllocError> {
-        match element {
-            Element::Bare(part) => self.add(part, left),
-            Element::Hidden(parts) => {
-                for part in parts.iter() {
-                    self.add(part, left)?;
-                }
-                Ok(())
-            }
-        }
+    fn put(&mut self, name: &'d str) -> Result<(), AllocError>
+        ensures { OnOk result ((q : List ℕ) → has self.new q ≡ (has self.old q || bytes_eq q name.now)) }
+    {
+        self.used.insert(name, true)?;
+        Ok(())
     }
 
-    fn add_alternative(
-        &mut self,
-        alternative: &'d Alternative,
-        left: &str,
-    ) -> Result<(), AllocError> {
-        for element in alternative.elements.iter() {
-            self.add_element(element, left)?;
+    fn put_all(&mut self, names: &[&'d str]) -> Result<(), AllocError>
+        ensures { OnOk result ((q : List ℕ) → has self.new q ≡ (has self.old q || list_any
+            (λ n. bytes_eq q n.now) names.now)) }
+    {
+        for name in names {
+            self.put(*name)?;
         }
         Ok(())
     }
 
-    /// Takes the separator that adverbs name as a use.
-    fn add_separator(&mut self, adverbs: &'d [Adverb], left: &str) -> Result<(), AllocError> {
-        match separator_of(adverbs) {
-            Some(part) => self.add(part, left),
-            None => Ok(()),
-        }
+    /// Whether a rule is lexical, and its left side none of these.
+    fn is_unused(&self, lexical: bool, name: &str) -> bool
+        ensures { result ≡ (lexical && not (has self.now name.now)) }
+    {
+        lexical && !self.has(name)
     }
 
-    fn add_statement(&mut self, statement: &'d Statement) -> Result<(), AllocError> {
-        match statement {
-            Statement::Discard { item, .. } => self.add(item, ""),
-            Statement::Quantified {
-                left,
-                item,
-                adverbs,
-                ..
-            } => {
-                self.add(item, left.content.as_str())?;
-                self.add_separator(adverbs, left.content.as_str())
-            }
-            Statement::Rules { left, groups, .. } => {
-                for group in groups.iter() {
-                    for alternative in group.iter() {
-                        self.add_alternative(alternative, left.content.as_str())?;
-                    }
-                }
-                Ok(())
-            }
-            _ => Ok(()),
+    /// Appends a hint for a lexical rule whose name is not among these.
+    fn look_at_use(
+        &self,
+        statement: &'d Statement,
+        hints: &mut Vec<Hint<'d>>,
+    ) -> Result<(), AllocError>
+        ensures { OnOk result (map hint_of hints.new.items ≡ map hint_of hints.old.items ++ found.unused
+            (has self.now) (statement_of statement.now)) }
+    {
+        let Some((lexical, left)) = left_of(statement) else {
+            return Ok(());
+        };
+        let name = left.content.as_str();
+        push_if(
+            self.is_unused(lexical, name),
+            left.at,
+            Fault::Unused(name),
+            hints,
+        )
+    }
+
+    fn look_at_each(
+        &self,
+        statements: &'d [Statement],
+        hints: &mut Vec<Hint<'d>>,
+    ) -> Result<(), AllocError>
+        ensures { OnOk result (map hint_of hints.new.items ≡ map hint_of hints.old.items ++ flat_map
+            (found.unused (has self.now)) (statements_of statements.now)) }
+    {
+        for statement in statements {
+            self.look_at_use(statement, hints)?;
         }
+        Ok(())
     }
 }
 
-/// The separator that adverbs name.
-pub(crate) fn separator_of(adverbs: &[Adverb]) -> Option<&Spelled> {
-    for adverb in adverbs {
-        if let Adverb::Pair { name, value } = adverb {
-            if name.content.as_str() == "separator" {
-                return Some(value);
-            }
-        }
-    }
-    None
-}
-
-/// The left side of a lexical rule.
-fn lexical_left(statement: &Statement) -> Option<&Spelled> {
-    match statement {
-        Statement::Empty { left, level, .. } if level.is_lexical() => Some(left),
-        Statement::Quantified { left, level, .. } if level.is_lexical() => Some(left),
-        Statement::Rules { left, level, .. } if level.is_lexical() => Some(left),
-        _ => None,
+/// No names.
+fn no_names<'d>(alloc: Global) -> Names<'d>
+    ensures { result.used.entries ≡ [] }
+{
+    Names {
+        used: HashMap::new(alloc),
     }
 }
 
-/// Whether a grammar has lexical rules.
-pub(crate) fn has_lexical(statements: &[Statement]) -> bool {
-    statements
-        .iter()
-        .any(|statement| lexical_left(statement).is_some())
+/// The names that are used.
+fn names_of(alloc: Global, statements: &[Statement]) -> Result<Names<'_>, AllocError>
+    ensures { IfOk result (λ names. (q : List ℕ) → has names q ≡ is_used
+        (statements_of statements.now) q) }
+{
+    let uses = uses_in(alloc, statements)?;
+    let mut names = no_names(alloc);
+    names.put_all(&uses)?;
+    Ok(names)
 }
 
 /// Appends a hint for each lexical rule whose name no other rule, separator or discard has.
@@ -113,22 +176,10 @@ pub(crate) fn look_at_uses<'d>(
     alloc: Global,
     statements: &'d [Statement],
     hints: &mut Vec<Hint<'d>>,
-) -> Result<(), AllocError> {
-    let mut names = Names {
-        used: HashMap::new(alloc),
-    };
-    for statement in statements {
-        names.add_statement(statement)?;
-    }
-    for statement in statements {
-        let Some(left) = lexical_left(statement) else {
-            continue;
-        };
-        let name = left.content.as_str();
-        if !names.used.contains_key(&name) {
-            let fault = Fault::Unused(name);
-            hints.push(Hint { at: left.at, fault })?;
-        }
-    }
-    Ok(())
+) -> Result<(), AllocError>
+    ensures { OnOk result (map hint_of hints.new.items ≡ map hint_of hints.old.items ++ unused_hints
+        (statements_of statements.now)) }
+{
+    let names = names_of(alloc, statements)?;
+    names.look_at_each(statements, hints)
 }

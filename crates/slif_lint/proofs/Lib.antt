@@ -1,0 +1,5 @@
+pub mod Firsts
+pub mod Pieces
+pub mod Rounds
+pub mod Sound
+pub mod Used
