@@ -1,3 +1,4 @@
+pub mod All
 pub mod Firsts
 pub mod Pieces
 pub mod Rounds

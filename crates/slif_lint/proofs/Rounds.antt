@@ -150,9 +150,9 @@ cond_cause : (b : Bool) (c : HeldCause) (o : Option HeldCause) → option_map ca
 cond_cause true c o = refl
 cond_cause false c o = refl
 
-pub put_updates : (name : List ℕ) (cause : HeldCause) (old : HeldNullable) {S : Type 0} (new : HashMap (Bor (List ℕ)) HeldCause S) → UpdatesBy (λ x y. bytes_eq x.now y.now) (λ k. bytes_eq name k.now) old.causes new (Some cause) → (q : List ℕ) → option_map cause_of (get_by (λ k. bytes_eq q k.now) new) ≡ cond (bytes_eq name q) (Some (cause_of cause)) (causes_of old q)
+pub put_updates : (name : List ℕ) (cause : HeldCause) (old new : HeldNullable) → UpdatesBy (λ x y. bytes_eq x.now y.now) (λ k. bytes_eq name k.now) old.causes new.causes (Some cause) → Updates name (cause_of cause) (causes_of old) (causes_of new)
 put_updates name cause old new updates q =
-    ap (λ (o : Option HeldCause). option_map cause_of o) (hash_map_updates_str name old.causes new (Some cause) updates q) ∙ cond_cause (bytes_eq name q) cause (get_by (λ k. bytes_eq q k.now) old.causes)
+    ap (λ (o : Option HeldCause). option_map cause_of o) (hash_map_updates_str name old.causes new.causes (Some cause) updates q) ∙ cond_cause (bytes_eq name q) cause (get_by (λ k. bytes_eq q k.now) old.causes)
 
 none_of : (o : Option Cause) → is_some o ≡ false → o ≡ None
 none_of None e = refl
@@ -182,3 +182,13 @@ module _ {V : Type 0} (f : V → Statement) (held : List V) (i : ℕ) where
 
   pub round_end : (old now : List ℕ → Option Cause) (grew : Bool) → length held ≤ i → Progress (map f held) (map f (take i held)) old now grew → IsRound (map f held) old now grew
   round_end old now grew w p = progress_end (map f held) old now grew (subst (λ xs. Progress (map f held) (map f xs) old now grew) (take_all i held w) p)
+
+pub round_less : (d : List Statement) (old new : List ℕ → Option Cause) (grew : Bool) → grew ≡ true → IsRound d old new grew → open_count d new < open_count d old
+round_less d old new true e r = r
+round_less d old new false e r = absurd (false≢true e)
+
+pub last_round : (d : List Statement) (old new : List ℕ → Option Cause) (grew : Bool) → grew ≡ false → IsRound d old new grew → AreSound d new → (name : List ℕ) → IsCauseOf d name (new name)
+last_round d old new true e r sound = absurd (false≢true (sym e))
+last_round d old new false e r sound =
+    let was : old ≡ new = λ i q. sym (r.0 q) i in
+    causes_are d new sound (subst (λ f. AreEnough d f) was r.1)

@@ -31,18 +31,18 @@ or_assoc : (a b c : Bool) → ((a || b) || c) ≡ (a || (b || c))
 or_assoc true b c = refl
 or_assoc false b c = refl
 
-pub more_used : (q : List ℕ) (start old new : Bool) (names : List (Bor (List ℕ))) (i : ℕ) (n : Bor (List ℕ)) → i < length names → n ≡ get_or names i n → old ≡ (start || list_any (λ n. bytes_eq q n.now) (take i names)) → new ≡ (old || bytes_eq q n.now) → new ≡ (start || list_any (λ n. bytes_eq q n.now) (take (i + 1) names))
-more_used q start old new names i n w is e f =
-    f ∙ (ap (λ b. b || bytes_eq q n.now) e ∙ (or_assoc start (list_any (λ n. bytes_eq q n.now) (take i names)) (bytes_eq q n.now) ∙ ap (λ b. start || b) (ap (λ (x : Bor (List ℕ)). list_any (λ n. bytes_eq q n.now) (take i names) || bytes_eq q x.now) is ∙ sym (list_any_more (λ n. bytes_eq q n.now) names i n w))))
+pub more_used : (q : List ℕ) (start old new : Bool) (names : List (Bor (List ℕ))) (i : ℕ) (d : Bor (List ℕ)) → i < length names → old ≡ (start || list_any (λ n. bytes_eq q n.now) (take i names)) → new ≡ (old || bytes_eq q (get_or names i d).now) → new ≡ (start || list_any (λ n. bytes_eq q n.now) (take (i + 1) names))
+more_used q start old new names i d w e f =
+    f ∙ (ap (λ b. b || bytes_eq q (get_or names i d).now) e ∙ (or_assoc start (list_any (λ n. bytes_eq q n.now) (take i names)) (bytes_eq q (get_or names i d).now) ∙ ap (λ b. start || b) (sym (list_any_more (λ n. bytes_eq q n.now) names i d w))))
 
 any_map : (q : List ℕ) (names : List (Bor (List ℕ))) → list_any (λ n. bytes_eq q n.now) names ≡ list_any (bytes_eq q) (map (λ n. n.now) names)
 any_map q [] = refl
 any_map q (n ∷ names) = ap (λ b. bytes_eq q n.now || b) (any_map q names)
 
 -- the names of a map that was empty, and got all these, are the used ones
-pub used_is : (d : List Statement) (old new : HeldNames) (names : List (Bor (List ℕ))) → old.used.entries ≡ [] → map (λ n. n.now) names ≡ flat_map uses_of d → ((q : List ℕ) → has new q ≡ (has old q || list_any (λ n. bytes_eq q n.now) names)) → (q : List ℕ) → has new q ≡ is_used d q
-used_is d old new names none are put q =
-    put q ∙ (ap (λ es. is_some (lookup (λ k. bytes_eq q k.now) es) || list_any (λ n. bytes_eq q n.now) names) none ∙ (any_map q names ∙ ap (λ ns. list_any (bytes_eq q) ns) are))
+pub used_is : (d : List Statement) (old new : HeldNames) (names slice : List (Bor (List ℕ))) → old.used.entries ≡ [] → map (λ n. n.now) names ≡ flat_map uses_of d → slice ≡ names → ((q : List ℕ) → has new q ≡ (has old q || list_any (λ n. bytes_eq q n.now) slice)) → (q : List ℕ) → has new q ≡ is_used d q
+used_is d old new names slice none are is put q =
+    put q ∙ (ap (λ es. is_some (lookup (λ k. bytes_eq q k.now) es) || list_any (λ n. bytes_eq q n.now) slice) none ∙ (ap (λ ns. list_any (λ n. bytes_eq q n.now) ns) is ∙ (any_map q names ∙ ap (λ ns. list_any (bytes_eq q) ns) are)))
 
 pub unused_are : (d : List Statement) (names : HeldNames) (old new : List Hint) → ((q : List ℕ) → has names q ≡ is_used d q) → new ≡ old ++ flat_map (unused (has names)) d → new ≡ old ++ unused_hints d
 unused_are d names old new are e =

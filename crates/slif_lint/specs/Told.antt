@@ -1,8 +1,7 @@
 -- What is written of the hints about a grammar: a line for each, in the order of their places, but for those on lines that say that it is meant so.
 use Rattle.std.specs.Prelude.{◌≡◌, ℕ, Bool, true, false, not, if◌then◌else◌, List, [], ◌∷◌, ◌++◌, map, count_by, Option, IsPermutation}
 use Rattle.std.specs.List.{flat_map}
-use Rattle.std.specs.List.Sorted.{IsSortedByKey}
-use Rattle.std.specs.Ordering.{nat_cmp}
+use Rattle.std.specs.List.Sorted.{IsNonDecreasingBy}
 use Rattle.std.specs.Str.{chars}
 use Rattle.language_model.specs.Description.{Statement}
 use Rattle.std.specs.Io.KnownBytes.{Appends}
@@ -34,7 +33,7 @@ pub record AreListed (d : List Statement) (hints : List HeldHint) : Type 0 where
   pub found : List HeldHint
   pub are : AreHints d (map hint_of found)
   pub permutation : IsPermutation found hints
-  pub sorted : IsSortedByKey place nat_cmp hints
+  pub sorted : IsNonDecreasingBy place hints
 
 -- whether a hint is told, and its line if it is
 abbrev pub is_told : List ℕ → HeldHint → Bool

@@ -174,7 +174,7 @@ impl<'d> Nullable<'d> {
     }
 
     fn put(&mut self, name: &'d str, cause: Cause<'d>) -> Result<(), AllocError>
-        ensures { OnOk result (Updates name.now (cause_of cause) (causes_of self.old)
+        ensures { OnOk result (Updates name.now (cause_of cause.entry) (causes_of self.old)
             (causes_of self.new)) }
     {
         self.causes.insert(name, cause)?;
@@ -275,6 +275,20 @@ impl<'d> Nullable<'d> {
             _ => Ok(()),
         }
     }
+
+    fn look_at_each(
+        &self,
+        statements: &'d [Statement],
+        hints: &mut Vec<Hint<'d>>,
+    ) -> Result<(), AllocError>
+        ensures { OnOk result (map hint_of hints.new.items ≡ map hint_of hints.old.items ++ flat_map
+            (sequence_hints (causes_of self.now)) (statements_of statements.now)) }
+    {
+        for statement in statements {
+            self.look_at_statement(statement, hints)?;
+        }
+        Ok(())
+    }
 }
 
 fn either(one: bool, other: bool) -> bool
@@ -326,8 +340,5 @@ pub(crate) fn look_at_sequences<'d>(
         (map hint_of hints.new.items)) }
 {
     let nullable = nullable_of(alloc, statements)?;
-    for statement in statements {
-        nullable.look_at_statement(statement, hints)?;
-    }
-    Ok(())
+    nullable.look_at_each(statements, hints)
 }

@@ -4,7 +4,7 @@ use Rattle.dsl_statement.specs.Statements.{statements_of}
 use Rattle.slif_lint.specs.Hints.{hint_of}
 use Rattle.slif_lint.specs.Nullable.{sequence_hints}
 use Rattle.slif_lint.specs.Found.{causes_of}
-use Rattle.slif_lint.proofs.nullable.look_at_sequences.Given as goal
+use Rattle.slif_lint.proofs.nullable.Nullable.look_at_each.Given as goal
 
 abbrev pub invariant-loop-statement : goal.invariant-loop-statement
-invariant-loop-statement l = map hint_of l.hints.items ≡ map hint_of l.fn.hints.items ++ flat_map (sequence_hints (causes_of l.nullable)) (statements_of (take l.statement-index l.statements))
+invariant-loop-statement l = map hint_of l.hints.items ≡ map hint_of l.fn.hints.items ++ flat_map (sequence_hints (causes_of l.self)) (statements_of (take l.statement-index l.statements))
