@@ -186,8 +186,9 @@ fn push_hints(
         (string_bytes out.new)) }
 {
     let hints = listed(alloc, statements)?;
-    push_lines(chars, &hints, out)?;
-    Ok(count_of(chars, &hints))
+    let slice = hints.as_slice();
+    push_lines(chars, slice, out)?;
+    Ok(count_of(chars, slice))
 }
 
 /// Writes the hints about a grammar, and gives how many there are.
