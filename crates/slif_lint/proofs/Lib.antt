@@ -1,6 +1,1 @@
-pub mod All
-pub mod Firsts
-pub mod Pieces
-pub mod Rounds
-pub mod Sound
-pub mod Used
+pub mod Written

@@ -3,7 +3,7 @@ use Rattle.std.specs.Prelude.{ℕ, suc, Bool, ◌+◌, ◌-◌, ◌==◌, ◌&&�
 use Rattle.std.specs.List.{prefix_len}
 use Rattle.std.specs.Str.{encode_utf8_all}
 use Rattle.outside_model.specs.Places.{column_after}
-use Rattle.slif_lint.specs.Hints.{has_piece}
+use Rattle.lint_hints.specs.Hints.{has_piece}
 use Rattle.slif_lint.specs.Sentences.{is_place}
 
 -- the line in which a character stands, without its end: where it begins, and where it ends

@@ -1,7 +1,7 @@
 -- The sentences of hints, and their lines.
 use Rattle.std.specs.Prelude.{ℕ, Bool, ◌+◌, ◌&&◌, nat_lt, if◌then◌else◌, List, ◌++◌, length, take, decimal, codes}
 use Rattle.outside_model.specs.Places.{line_after, column_after}
-use Rattle.slif_lint.specs.Hints.{Fault, Unused, Escape, Posix, NoLatm, Operator, Enclosed, Nullable, Hint}
+use Rattle.lint_hints.specs.Hints.{Fault, Unused, Escape, Posix, NoLatm, Operator, Enclosed, Nullable, Hint}
 
 abbrev pub nullable : List ℕ → List ℕ → List ℕ
 nullable cause sequence = cause ++ (codes " can span nothing, and with it the item or separator of the sequence " ++ sequence)

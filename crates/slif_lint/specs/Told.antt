@@ -6,24 +6,11 @@ use Rattle.std.specs.Str.{chars}
 use Rattle.language_model.specs.Description.{Statement}
 use Rattle.std.specs.Io.KnownBytes.{Appends}
 use Rattle.slif_lint.specs.Described.{IsDescriptionOf}
-use Rattle.slif_lint.specs.declared.hint.Hint.{Hint as HeldHint}
-use Rattle.slif_lint.specs.Hints.{Hint, hint_of, latm_hints, statement_hints}
-use Rattle.slif_lint.specs.Uses.{unused_hints}
-use Rattle.slif_lint.specs.Nullable.{Cause, IsCauseOf, sequence_hints}
+use Rattle.lint_hints.specs.declared.hint.Hint.{Hint as HeldHint}
+use Rattle.lint_hints.specs.Hints.{hint_of}
+use Rattle.lint_hints.specs.All.{AreHints}
 use Rattle.slif_lint.specs.Meant.{is_meant}
 use Rattle.slif_lint.specs.Sentences.{line_text}
-
--- the hints about the statements
-pub record AreHints (d : List Statement) (hints : List Hint) : Type 0 where
-  pub causes : List ℕ → Option Cause
-  pub each : (name : List ℕ) → IsCauseOf d name (causes name)
-  pub are : hints ≡ ((latm_hints d ++ flat_map statement_hints d) ++ unused_hints d) ++ flat_map (sequence_hints causes) d
-
--- to hints come those about sequences
-pub record AddsSequences (d : List Statement) (old new : List Hint) : Type 0 where
-  pub causes : List ℕ → Option Cause
-  pub each : (name : List ℕ) → IsCauseOf d name (causes name)
-  pub are : new ≡ old ++ flat_map (sequence_hints causes) d
 
 abbrev pub place : HeldHint → ℕ
 place h = h.at

@@ -2,19 +2,18 @@
 ghost use Rattle.std.specs.Prelude.{◌≡◌, ◌<◌, ◌≤◌, ◌++◌, [], length, IfOk, OnOk, string_bytes, chars, count_by, flat_map};
 ghost use Rattle.dsl_statement.specs.Statements.{statements_of};
 ghost use Rattle.slif_lint.specs.Described.{IsDescriptionOf};
-ghost use Rattle.slif_lint.specs.Hints.{hint_of};
+ghost use Rattle.lint_hints.specs.Hints.{hint_of};
 ghost use Rattle.slif_lint.specs.Sentences.{line_of, column_of, place_text, line_text};
 ghost use Rattle.slif_lint.specs.Meant.{line_start, line_end, is_meant};
 ghost use Rattle.slif_lint.specs.Told as told;
 ghost use Rattle.slif_lint.specs.Told.{AreListed, told_line, AreTold, IsWritten};
 
-use crate::hint::{Hint, push_sentence, put, put_number};
-use crate::hints::hints_of;
-use crate::spellings::has_piece;
+use crate::sentences::{push_sentence, put, put_number};
 use crate::stop::Stop;
 use dsl_reader::{StatementRefusal, parse};
 use dsl_statement::{Description, Statement};
 use dsl_tokens::{TokenRefusal, tokens};
+use lint_hints::{Hint, has_piece, hints_of};
 use slif_base::{Chars, Sink, TextRefusal, chars_of, write_all};
 use std::alloc::{AllocError, Global};
 

@@ -1,6 +1,6 @@
 use Rattle.std.proofs.Common.{string_bytes}
 use Rattle.dsl_statement.specs.Statements.{statements_of}
-use Rattle.slif_lint.proofs.All.{told_are}
+use Rattle.slif_lint.proofs.Written.{told_are}
 use Rattle.slif_lint.proofs.telling.push_hints.Goals as goal
 
 pub returns : goal.returns

@@ -1,7 +1,0 @@
-use Rattle.std.proofs.Common.{◌≡◌, drop}
-use Rattle.dsl_statement.specs.Statements.{statements_of}
-use Rattle.slif_lint.specs.Hints.{first_place}
-use Rattle.slif_lint.proofs.hints.first_place.Given as goal
-
-abbrev pub invariant-loop-statement : goal.invariant-loop-statement
-invariant-loop-statement l = first_place (statements_of (drop l.statement-index l.statements)) ≡ first_place (statements_of l.statements)

@@ -1,6 +1,0 @@
-use Rattle.std.proofs.Common.{◌≡◌, drop, map}
-use Rattle.slif_lint.specs.Found.{causes_of, found_groups}
-use Rattle.slif_lint.proofs.nullable.Nullable.cause_of_groups.Given as goal
-
-abbrev pub invariant-loop-group : goal.invariant-loop-group
-invariant-loop-group l = found_groups (causes_of l.self) l.left (map (λ g. g.items) (drop l.group-index l.groups)) ≡ found_groups (causes_of l.self) l.left (map (λ g. g.items) l.groups)

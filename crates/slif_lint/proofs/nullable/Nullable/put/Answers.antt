@@ -1,5 +1,0 @@
-use Rattle.slif_lint.proofs.Rounds.{put_updates}
-use Rattle.slif_lint.proofs.nullable.Nullable.put.Goals as goal
-
-pub returns : goal.returns
-returns c = put_updates c.args.name.now c.args.cause c.args.self.now (record { causes = c.insert.new.self }) c.in_ok-insert.ensures.updates

@@ -1,8 +1,0 @@
-use Rattle.std.proofs.Common.{◌≡◌, drop}
-use Rattle.std.specs.List.{list_all}
-use Rattle.slif_lint.specs.Nullable.{spans_part}
-use Rattle.slif_lint.specs.Found.{causes_of, knows}
-use Rattle.slif_lint.proofs.nullable.Nullable.spans_parts.Given as goal
-
-abbrev pub invariant-loop-part : goal.invariant-loop-part
-invariant-loop-part l = list_all (spans_part (knows (causes_of l.self))) (drop l.part-index l.parts) ≡ list_all (spans_part (knows (causes_of l.self))) l.parts

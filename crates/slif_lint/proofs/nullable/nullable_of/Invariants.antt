@@ -1,9 +1,0 @@
-use Rattle.dsl_statement.specs.Statements.{statements_of}
-use Rattle.slif_lint.specs.Found.{causes_of, AreSound, open_count}
-use Rattle.slif_lint.proofs.nullable.nullable_of.Given as goal
-
-abbrev pub invariant-loop-nullable : goal.invariant-loop-nullable
-invariant-loop-nullable l = AreSound (statements_of l.statements) (causes_of l.nullable)
-
-abbrev pub decreases-loop-nullable : goal.decreases-loop-nullable
-decreases-loop-nullable l = open_count (statements_of l.statements) (causes_of l.nullable)

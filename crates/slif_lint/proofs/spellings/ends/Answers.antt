@@ -1,5 +1,0 @@
-use Rattle.std.proofs.lemmas.Str.Pattern.{ends_text}
-use Rattle.slif_lint.proofs.spellings.ends.Goals as goal
-
-pub returns : goal.returns
-returns c = ends_text c.ends_with.result c.args.piece.now c.args.text.now c.ends_with.ensures.cases

@@ -1,7 +1,0 @@
-use Rattle.std.proofs.Common.{◌≡◌, ◌++◌, map, take}
-use Rattle.std.specs.List.{flat_map}
-use Rattle.slif_lint.specs.Hints.{hint_of, spelling}
-use Rattle.slif_lint.proofs.spellings.look_at_parts.Given as goal
-
-abbrev pub invariant-loop-part : goal.invariant-loop-part
-invariant-loop-part l = map hint_of l.hints.items ≡ map hint_of l.fn.hints.items ++ flat_map spelling (take l.part-index l.parts)
