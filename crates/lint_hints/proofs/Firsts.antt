@@ -1,5 +1,5 @@
 -- The first cause that the program finds: a step over a list.
-use Rattle.std.proofs.Common.{◌≡◌, ℕ, ◌<◌, ◌+◌, List, ◌∷◌, length, get_or, drop, map, sym, ap, ◌∙◌, Option, Some, None}
+use Rattle.std.proofs.Common.{◌≡◌, ℕ, ◌<◌, ◌+◌, List, length, get_or, drop, map, sym, ap, ◌∙◌, Option, Some, None}
 use Rattle.std.specs.Option.{option_or}
 use Rattle.std.proofs.lemmas.List.{at_drop_more}
 use Rattle.language_model.specs.Tokens.{Spelled}

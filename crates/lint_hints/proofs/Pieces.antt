@@ -1,5 +1,5 @@
 -- A text has a piece just where it can be taken apart about it.
-use Rattle.std.proofs.Common.{◌↔◌, ◌≡◌, ℕ, Bool, true, false, ◌||◌, List, [], ◌∷◌, ◌++◌, length, drop, sym, ap, ◌∙◌, refl, arith}
+use Rattle.std.proofs.Common.{◌↔◌, ◌≡◌, ℕ, Bool, true, false, ◌||◌, List, [], ◌∷◌, ◌++◌, length, drop, sym, ap, refl, arith}
 use Rattle.std.specs.Bool.{nat_eq}
 use Rattle.std.specs.List.{starts_with}
 use Rattle.std.specs.Str.Iter.{HasSubslice}

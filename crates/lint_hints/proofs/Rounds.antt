@@ -1,6 +1,6 @@
 -- Rounds over the statements: each but the last has a new name, and after the last each name has its cause, or cannot span nothing.
-use Rattle.std.proofs.Common.{◌≡◌, ℕ, zero, suc, ◌<◌, ◌≤◌, ◌+◌, Bool, true, false, cond, ◌&&◌, ◌||◌, not, List, [], ◌∷◌, ◌++◌, length, get_or, sym, ap, ◌∙◌, refl, subst, arith, bytes_eq, IsTrue, Option, Some, None, is_some, option_map, map, take}
-use Rattle.std.specs.List.{All, count_by}
+use Rattle.std.proofs.Common.{◌≡◌, ℕ, zero, suc, ◌<◌, ◌≤◌, ◌+◌, Bool, true, false, cond, ◌||◌, not, List, [], ◌∷◌, ◌++◌, length, get_or, sym, ap, ◌∙◌, refl, subst, arith, bytes_eq, IsTrue, Option, Some, None, is_some, option_map, map, take}
+use Rattle.std.specs.List.{count_by}
 use Rattle.std.proofs.lemmas.Bool.{false≢true}
 use Rattle.std.proofs.lemmas.List.Sums.{sum_by-cons}
 use Rattle.std.proofs.lemmas.Slice.Eq.{bytes_eq-Decides}
@@ -8,13 +8,12 @@ use Rattle.std.proofs.lemmas.List.Elements.{All-push}
 use Rattle.language_model.specs.Description.{Statement}
 use Rattle.std.proofs.lemmas.List.{take_more, take_all, get_or-map, map-append, length-map}
 use Rattle.std.proofs.lemmas.Map.Text.{hash_map_updates_str}
-use Rattle.std.specs.HashMap.{HashMap, UpdatesBy, get_by}
+use Rattle.std.specs.HashMap.{UpdatesBy, get_by}
 use Rattle.std.specs.Map.{lookup}
-use denote.Ref.{Bor}
 use Rattle.lint_hints.specs.declared.nullable.Cause.{Cause as HeldCause}
 use Rattle.lint_hints.specs.declared.nullable.Nullable.{Nullable as HeldNullable}
 use Rattle.lint_hints.specs.Uses.{left_name}
-use Rattle.lint_hints.specs.Nullable.{Cause, spans_right, comes_right, IsClosed, AreClosed, SpansNothing, ComesFrom, IsCauseOf}
+use Rattle.lint_hints.specs.Nullable.{Cause, spans_right, comes_right, IsClosed, SpansNothing, ComesFrom, IsCauseOf}
 use Rattle.lint_hints.specs.Found.{cause_of, causes_of, knows, found, Updates, IsAdded, AreSound, AreEnough, open_count, IsRound}
 use Rattle.lint_hints.proofs.Sound.{Includes, more_right, more_comes, spans_found, comes_found, found_by_right}
 

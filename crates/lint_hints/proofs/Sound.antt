@@ -1,16 +1,15 @@
 -- What the program finds by its causes is so: names that it has a cause for can span nothing, and that comes from there.
-use Rattle.std.proofs.Common.{◌≡◌, ℕ, zero, suc, ◌<◌, ◌≤◌, ◌+◌, Bool, true, false, cond, ◌&&◌, ◌||◌, ◌==◌, List, [], ◌∷◌, length, get_or, take, sym, ap, ◌∙◌, refl, subst, arith, bytes_eq, IsTrue, Option, Some, None, is_some}
+use Rattle.std.proofs.Common.{◌≡◌, ℕ, zero, suc, Bool, true, false, cond, ◌&&◌, ◌||◌, ◌==◌, List, [], ◌∷◌, ap, refl, subst, arith, bytes_eq, IsTrue, Option, Some, None, is_some}
 use Rattle.std.proofs.lemmas.Bool.{false≢true}
 use Rattle.std.proofs.lemmas.Bool.Decides.{Decides-eqb}
 use Rattle.std.proofs.lemmas.Slice.Eq.{bytes_eq-Decides}
-use Rattle.std.specs.List.{list_all, list_any, slice_get, All}
+use Rattle.std.specs.List.{list_all, list_any, slice_get}
 use Rattle.std.specs.Option.{option_or, option_and_then}
 use Rattle.language_model.specs.Tokens.{Spelled}
 use Rattle.language_model.specs.Description.{Element, Alternative, Statement, Start, Default, LexemeDefault, Lexeme, Discard, Empty, Quantified, Rules, is_name}
 use Rattle.language_model.specs.Building.{parts_of_element}
 use Rattle.lint_hints.specs.Hints.{last_of, last_part}
-use Rattle.lint_hints.specs.Uses.{left_name}
-use Rattle.lint_hints.specs.Nullable.{Cause, spans_part, spans_element, spans_alternative, spans_group, spans_right, comes_last, comes_alternative, comes_group, comes_item, comes_right, is_cause, cause_of_part, IsClosed, AreClosed, SpansNothing, ComesFrom, IsCauseOf}
+use Rattle.lint_hints.specs.Nullable.{Cause, spans_part, spans_element, spans_alternative, spans_group, spans_right, comes_last, comes_alternative, comes_group, comes_item, comes_right, is_cause, cause_of_part}
 use Rattle.lint_hints.specs.Found.{knows, own, found_last, found_alternative, found_group, found_groups, found_item, found}
 
 -- TESTS

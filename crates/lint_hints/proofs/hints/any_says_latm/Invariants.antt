@@ -1,4 +1,4 @@
-use Rattle.std.proofs.Common.{◌≡◌, drop, map}
+use Rattle.std.proofs.Common.{◌≡◌, drop}
 use Rattle.std.specs.List.{list_any}
 use Rattle.dsl_statement.specs.Statements.{statements_of}
 use Rattle.lint_hints.specs.Hints.{says_latm}

@@ -1,4 +1,4 @@
-use Rattle.std.proofs.Common.{◌≡◌, drop, map}
+use Rattle.std.proofs.Common.{◌≡◌, drop}
 use Rattle.std.specs.List.{list_any}
 use Rattle.lint_hints.specs.Hints.{is_named}
 use Rattle.lint_hints.proofs.operators.any_is_named.Given as goal

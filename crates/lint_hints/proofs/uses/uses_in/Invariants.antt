@@ -1,4 +1,4 @@
-use Rattle.std.proofs.Common.{◌≡◌, ◌++◌, map, take}
+use Rattle.std.proofs.Common.{◌≡◌, map, take}
 use Rattle.std.specs.List.{flat_map}
 use Rattle.dsl_statement.specs.Statements.{statements_of}
 use Rattle.lint_hints.specs.Uses.{uses_of}

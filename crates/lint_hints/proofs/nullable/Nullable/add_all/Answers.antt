@@ -1,4 +1,4 @@
-use Rattle.dsl_statement.specs.Statements.{statement_of, statements_of}
+use Rattle.dsl_statement.specs.Statements.{statement_of}
 use Rattle.lint_hints.specs.Found.{causes_of}
 use Rattle.lint_hints.proofs.Rounds.{round_more, round_end, sound_more}
 use Rattle.lint_hints.proofs.nullable.Nullable.add_all.Goals as goal
