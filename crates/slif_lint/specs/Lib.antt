@@ -1,1 +1,4 @@
 pub mod Described
+pub mod Meant
+pub mod Sentences
+pub mod Told

@@ -1,15 +1,9 @@
 //! Tells what is likely to be a mistake in a grammar that may well be accepted: each with its line, its column and one sentence.
 #![tactic(auto)]
 
-mod brackets;
-mod hint;
-mod hints;
-mod nullable;
-mod operators;
-mod spellings;
+mod sentences;
 mod stop;
 mod telling;
-mod uses;
 mod words;
 
 use crate::stop::Stop;

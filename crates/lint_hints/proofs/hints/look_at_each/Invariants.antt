@@ -1,0 +1,8 @@
+use Rattle.std.proofs.Common.{◌≡◌, ◌++◌, map, take}
+use Rattle.std.specs.List.{flat_map}
+use Rattle.dsl_statement.specs.Statements.{statements_of}
+use Rattle.lint_hints.specs.Hints.{hint_of, statement_hints}
+use Rattle.lint_hints.proofs.hints.look_at_each.Given as goal
+
+abbrev pub invariant-loop-statement : goal.invariant-loop-statement
+invariant-loop-statement l = map hint_of l.hints.items ≡ map hint_of l.fn.hints.items ++ flat_map statement_hints (statements_of (take l.statement-index l.statements))
