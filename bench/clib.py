@@ -7,7 +7,7 @@ FILE is the static library that `rt lib` writes in crates/slif_c; without it tha
 none. With --gate it is made over the libraries that `rt ci` left here in a clean clone: the crate is proved once more, and none below it; where other
 libraries stand here, or none, nothing is tested. A C compiler is wanted; valgrind is used where it is there. Tested are: what the object needs and
 exports; each call, by clib/test.c, which writes clib/test.out; want of memory at each allocation, by clib/no_memory.c; both under valgrind; the program
-that stands in docs/C.md, and the INI reader; the examples in the texts of the Python modules.
+of docs/C.md, the scanner there, and the INI reader; a program in C++; the examples in the texts of the Python modules, and clib/scanner.py over them.
 
 With --rounds it measures, in processor time and in turn with the program `slif` where that is built: JSON of 1 MB, a short input read again and
 again by one grammar, and JSON of 1 MB folded to objects by Python, beside lark where that is installed.
@@ -19,13 +19,28 @@ HERE = pathlib.Path(__file__).resolve().parent
 ROOT = HERE.parent
 EXTRAS = ROOT / "extras"
 BUILT = ROOT / "crates/slif_c/out/libslif_c.a"
-CC = os.environ.get("CC", "cc")
+CC, CXX = os.environ.get("CC", "cc"), os.environ.get("CXX", "c++")
 HEAP = {"rattle_alloc", "rattle_dealloc", "rattle_realloc"}
 LIBC = {"memcpy", "memmove", "memset"}
 INI = "; two servers\n[web]\nhost = example.org  ; the first\nport =\n\n[mail.old]\nmotto = small and fast"
 INI_OUT = "web.host=example.org\nweb.port=\nmail.old.motto=small and fast\n"
 INI_BAD = "ini:2:6: input stopped at line 2 column 6; found: none; expected: '='\nini: '=' could stand there\n"
 SUM_BAD = "sum: input stopped at line 1 column 3; found: none; expected: number\n"
+CPP = """#include "slif.h"
+#include <cstdio>
+int main() {
+    slif_grammar grammar = SLIF_NEW;
+    slif_parse parse = SLIF_NEW;
+    slif_step none;
+    std::size_t count = 0;
+    slif_grammar_make(&grammar, "E ::= E '+' E | '1'", 19, nullptr, nullptr, 0);
+    slif_parse_make(&parse, &grammar, "1+1+1", 5, SLIF_RANK_RULE, 0, 1, nullptr, nullptr, 0, nullptr, 0);
+    slif_parse_steps(&parse, 0, 0, &none, 0, &count);
+    slif_parse_free(&parse);
+    slif_grammar_free(&grammar);
+    std::printf("%zu steps\\n", count);
+}
+"""
 failures = []
 
 
@@ -132,6 +147,29 @@ def test_guide(at):
     tell("and refuses", (done.returncode, done.stderr.decode()) == (1, SUM_BAD), done.stderr.decode())
 
 
+def test_scanner_of_guide(at):
+    """The second program of docs/C.md, which has a lexer of its own."""
+    (at / "ratio.c").write_text(textwrap.dedent(re.search(r"^    /\* ratio.*?(?=^\S|\Z)", (ROOT / "docs/C.md").read_text(), re.M | re.S)[0]))
+    ratio = compiled(at, at / "ratio.c", at / "libslif.a", of="the scanner of docs/C.md")
+    passes("the scanner of docs/C.md tells a slash from a pattern", [ratio, "a / /b c/ / d"], "((a over /b c/) over d)\n")
+    passes("also without spaces", [ratio, "/x//y"], "(/x/ over y)\n")
+    for word, told in (("a b", "ratio: unexpected: b\n"), ("a /", "ratio: it is not whole\n")):
+        done = run([ratio, word])
+        tell(f"and refuses {word!r}", (done.returncode, done.stderr.decode()) == (1, told), done.stderr.decode())
+
+
+def test_cpp(at):
+    """The header is one for C++, too."""
+    if not shutil.which(CXX):
+        print("     (a compiler of C++ is not there)")
+        return
+    words = [CXX, "-x", "c++", "-std=c++11", "-Wall", "-Wextra", "-pedantic", "-I", EXTRAS / "c"]
+    (at / "cpp.cc").write_text(CPP)
+    done = run([*words, at / "cpp.cc", "-x", "none", at / "libslif.a", "-o", at / "cpp"])
+    tell("the header is one of C++", done.returncode == 0 and not done.stderr, done.stderr.decode())
+    passes("and a program in C++ runs", [at / "cpp"], "10 steps\n")
+
+
 def test_ini(at):
     ini = compiled(at, EXTRAS / "c/ini.c", at / "libslif.a")
     passes("the INI reader reads", [ini], INI_OUT, input=INI.encode())
@@ -140,7 +178,7 @@ def test_ini(at):
 
 
 def python(at, words, **more):
-    env = {**os.environ, "SLIF_LIBRARY": str(at / "libslif.so"), "PYTHONDONTWRITEBYTECODE": "1"}
+    env = {**os.environ, "SLIF_LIBRARY": str(at / "libslif.so"), "PYTHONDONTWRITEBYTECODE": "1", "PYTHONPATH": str(EXTRAS / "python")}
     return run([sys.executable, *words], cwd=EXTRAS / "python", env=env, **more)
 
 
@@ -150,6 +188,8 @@ def test_python(at):
         tell(f"the examples of extras/python/{module}.py", done.returncode == 0, done.stdout.decode()[-2000:] + done.stderr.decode()[-2000:])
     done = python(at, ["-c", "import doctest, sys; sys.exit(doctest.testfile(sys.argv[1], False).failed)", ROOT / "docs/C.md"])
     tell("the example of docs/C.md", done.returncode == 0, done.stdout.decode()[-2000:] + done.stderr.decode()[-2000:])
+    done = python(at, [HERE / "clib/scanner.py"])
+    tell("scanners, lines and threads in Python", done.returncode == 0 and not done.stdout, done.stdout.decode()[-2000:] + done.stderr.decode()[-2000:])
     done = python(at, ["calculator.py", "2 + 3 * (4 - 1) ** 2"])
     tell("the calculator calculates", done.stdout == b"29\n", done.stderr.decode())
     done = python(at, ["json_reader.py"], input=b'{"a": [1, 2.5, "\\u00e9", []], "b": {}}')
@@ -195,8 +235,8 @@ class Values(Transformer):
     def null(self, _): return None
 parser = Lark(r'''
 ?value: object | list | string | SIGNED_NUMBER -> number | "true" -> true | "false" -> false | "null" -> null
-list: "[" [value ("," value)*] "]"
-object: "{" [pair ("," pair)*] "}"
+list: "[" (value ("," value)*)? "]"
+object: "{" (pair ("," pair)*)? "}"
 pair: string ":" value
 string: ESCAPED_STRING
 %import common.ESCAPED_STRING
@@ -256,6 +296,8 @@ def main():
             look_at_names(library, at / "libslif.so.0")
             test_c(at, library)
             test_guide(at)
+            test_scanner_of_guide(at)
+            test_cpp(at)
             test_ini(at)
             test_python(at)
             test_install(at)

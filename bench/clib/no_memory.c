@@ -40,10 +40,10 @@ static int stop(const char *what, uint32_t answer, long n, long held) {
 }
 
 /* What is called, and over what. */
-enum call { GRAMMAR, PARSE, EXPECTED };
-static const char *const NAMES[] = { "grammar", "input", "expected" };
+enum call { GRAMMAR, PARSE, EXPECTED, SHOWN, SHARE };
+static const char *const NAMES[] = { "grammar", "input", "expected", "lines", "share" };
 
-static slif_grammar grammar = SLIF_NEW;
+static slif_grammar grammar = SLIF_NEW, other = SLIF_NEW;
 static slif_parse parsed = SLIF_NEW;
 
 static uint32_t answer_of(enum call call, const char *text, slif_fault *fault) {
@@ -53,6 +53,8 @@ static uint32_t answer_of(enum call call, const char *text, slif_fault *fault) {
     switch (call) {
     case GRAMMAR: return slif_grammar_make(&grammar, text, strlen(text), fault, message, sizeof message);
     case PARSE: return slif_parse_make(&parsed, &grammar, text, strlen(text), 0, 0, 10, fault, message, sizeof message, 0, 0);
+    case SHARE: return slif_grammar_share(&grammar, &other);
+    case SHOWN: return slif_show_make(&parsed, &grammar, text, strlen(text), 0, SLIF_SHOW_TREE, 0, 10, fault, message, sizeof message, 0, 0);
     default: return slif_expect(&grammar, text, strlen(text), symbols, 8, &count, fault, message, sizeof message);
     }
 }
@@ -72,12 +74,62 @@ static int try_call(enum call call, const char *text, uint32_t wanted) {
     }
 }
 
+/* The calls of a scanner, one after another. */
+static slif_scan scan = SLIF_NEW;
+
+enum step { NEW, LEFT, NOUN, ONE, TWO, ITEMS, START, READY, SHORT, LONG, NEXT, ACCEPTABLE, SECOND, LAST, DERIVE, STEPS };
+
+static uint32_t scanned(enum step step) {
+    static const uint32_t nouns[2] = { 1, 1 };
+    uint32_t number, symbols[4];
+    size_t count;
+    uint8_t message[4];
+    switch (step) {
+    case NEW: return slif_scan_new(&scan);
+    case LEFT: return slif_scan_symbol(&scan, (const uint8_t *)"phrase", 6, &number);
+    case NOUN: return slif_scan_symbol(&scan, (const uint8_t *)"noun", 4, &number);
+    case ONE: return slif_scan_rule(&scan, 0, nouns, 1, &number);
+    case TWO: return slif_scan_rule(&scan, 0, nouns, 2, &number);
+    case ITEMS: return slif_scan_symbol(&scan, (const uint8_t *)"unused", 6, &number);
+    case START: return slif_scan_start(&scan, 0);
+    case READY: return slif_scan_precompute(&scan, message, 4, &count);
+    case SHORT: case SECOND: return slif_scan_alternative(&scan, 1, 1);
+    case LONG: return slif_scan_alternative(&scan, 1, 2);
+    case NEXT: case LAST: return slif_scan_complete(&scan, &number);
+    case ACCEPTABLE: return slif_scan_expected(&scan, symbols, 4, &count);
+    default: return slif_scan_parse(&scan, 0, 10, &parsed);
+    }
+}
+
+/* Each call is made again until no allocation of it fails; each time before, all is as it was, so that it can be made again. */
+static int try_scanner(void) {
+    long failed = 0;
+    for (enum step step = NEW; step < STEPS; step++) {
+        for (long n = 0;; n++, failed++) {
+            left = n;
+            uint32_t answer = scanned(step);
+            left = -1;
+            if (answer == SLIF_OK) break;
+            if (n == MOST || answer != SLIF_NO_MEMORY) return stop("scanner", answer, n, (long)step);
+        }
+    }
+    uint64_t derivations;
+    bool more;
+    if (slif_parse_counts(&parsed, &derivations, &more) != SLIF_OK || derivations != 2 || more) return stop("derivations", 0, 0, 0);
+    slif_scan_free(&scan);
+    return printf("scanner: %ld failures\n", failed), 0;
+}
+
 int main(void) {
     if (try_call(GRAMMAR, SUM, SLIF_OK) || try_call(GRAMMAR, WRONG, SLIF_GRAMMAR)) return 1;
     if (try_call(PARSE, "1+1+1", SLIF_OK) || try_call(PARSE, "1+2", SLIF_INPUT)) return 1;
     if (try_call(EXPECTED, "1+", SLIF_OK) || try_call(EXPECTED, "1+2", SLIF_INPUT)) return 1;
+    if (try_call(SHOWN, "1+1+1", SLIF_OK) || try_call(SHOWN, "1+2", SLIF_INPUT)) return 1;
+    if (try_call(SHARE, "", SLIF_OK) || try_call(PARSE, "1+1+1", SLIF_OK)) return 1;
+    if (try_scanner()) return 1;
     slif_parse_free(&parsed);
     slif_grammar_free(&grammar);
+    slif_grammar_free(&other);
     printf("%ld blocks left\n", live);
     return live != 0;
 }

@@ -164,6 +164,211 @@ static void expecting(void) {
     CHECK(slif_expect(&grammar, "1", 1, symbols, 4, &count, &fault, message, ROOM) == SLIF_EMPTY && fault.column == 3);
 }
 
+/* The line of a derivation, as the program shows it, and where there is none. */
+static void lines(void) {
+    static const char LISTS[] = ":default ::= action => [name,values]\nE ::= E '+' E | '1'\n";
+    slif_grammar grammar = grammar_of(LISTS);
+    slif_parse read = SLIF_NEW;
+    uint8_t line[ROOM], few[6] = "??????";
+    uint64_t derivations;
+    size_t length = 9;
+    bool more;
+    for (uint32_t show = SLIF_SHOW_ARRAY; show <= SLIF_SHOW_TREE; show++) {
+        CHECK(slif_show_make(&read, &grammar, "1+1+1", 5, SLIF_RANK_RULE, show, 0, 2, 0, 0, 0, 0, 0) == SLIF_OK);
+        CHECK(slif_parse_counts(&read, &derivations, &more) == SLIF_OK && derivations == 2 && !more);
+        for (uint64_t k = 0; k < derivations; k++) {
+            CHECK(slif_parse_line(&read, k, line, ROOM, &length) == SLIF_OK);
+            printf("%.*s", (int)length, (char *)line);
+        }
+    }
+    CHECK(slif_show_make(&read, &grammar, "1", 1, SLIF_RANK_RULE, SLIF_SHOW_ARRAY, 0, 9, 0, 0, 0, 0, 0) == SLIF_OK);
+    CHECK(slif_parse_line(&read, 0, few, 4, &length) == SLIF_OK && length == 10 && memcmp(few, "[\"E\"??", 6) == 0);
+    CHECK(slif_parse_line(&read, 1, few, 4, &length) == SLIF_RANGE && length == 10);
+    CHECK(slif_show_make(&read, &grammar, "1+", 2, SLIF_RANK_RULE, SLIF_SHOW_TREE, 0, 1, 0, 0, 0, 0, 0) == SLIF_INPUT);
+    CHECK(slif_parse_line(&read, 0, line, ROOM, &length) == SLIF_OK && length == 10);
+    CHECK(slif_show_make(&read, &grammar, "1+1+1", 5, SLIF_RANK_RULE, SLIF_SHOW_TREE, 1, 0, 0, 0, 0, 0, 0) == SLIF_OK);
+    CHECK(slif_parse_counts(&read, &derivations, &more) == SLIF_OK && derivations == 0 && more);
+    CHECK(parse(&read, &grammar, "1", 0, 1) == SLIF_OK);
+    CHECK(slif_parse_line(&read, 0, few, 4, &length) == SLIF_RANGE);
+    slif_parse_free(&read);
+    CHECK(slif_parse_line(&read, 0, few, 4, &length) == SLIF_EMPTY && length == 10);
+    slif_grammar_free(&grammar);
+    CHECK(slif_show_make(&read, &grammar, "1", 1, SLIF_RANK_RULE, SLIF_SHOW_TREE, 0, 1, 0, 0, 0, 0, 0) == SLIF_EMPTY);
+}
+
+/* SCANNERS */
+
+static uint32_t symbol_in(slif_scan *scan, const char *name) {
+    uint32_t symbol = 9999;
+    CHECK(slif_scan_symbol(scan, (const uint8_t *)name, strlen(name), &symbol) == SLIF_OK);
+    return symbol;
+}
+
+static void tell_scanned(slif_scan *scan, uint64_t skip, uint64_t most) {
+    static const char *const KINDS[] = { "token", "nulled", "rule" };
+    slif_parse read = SLIF_NEW;
+    slif_step steps[STEPS];
+    uint64_t derivations;
+    size_t count;
+    bool more;
+    CHECK(slif_scan_parse(scan, skip, most, &read) == SLIF_OK);
+    CHECK(slif_parse_counts(&read, &derivations, &more) == SLIF_OK);
+    printf("%d derivations, %s\n", (int)derivations, more ? "and more" : "and no more");
+    for (uint64_t k = 0; k < derivations; k++) {
+        CHECK(slif_parse_steps(&read, k, 0, steps, STEPS, &count) == SLIF_OK);
+        for (const slif_step *step = steps; step < steps + count; step++)
+            printf("%s%s %u, %u children, %u to %u, %u + %u, %zu + %zu", step == steps ? "" : "; ", KINDS[step->kind], step->number,
+                   step->children, step->from, step->to, step->start, step->length, step->byte, step->bytes);
+        printf("\n");
+    }
+    slif_parse_free(&read);
+}
+
+/* A phrase is one noun or two; a long noun and two short ones end at one place. */
+static void overlapping(void) {
+    slif_scan scan = SLIF_NEW;
+    uint32_t parts[2], rule = 9, place = 9, symbols[4] = { 77, 77, 77, 77 };
+    uint8_t text[1];
+    size_t count = 9;
+    CHECK(slif_scan_new(&scan) == SLIF_OK);
+    uint32_t phrase = symbol_in(&scan, "phrase"), noun = symbol_in(&scan, "noun");
+    CHECK(phrase == 0 && noun == 1 && symbol_in(&scan, "phrase") == 0);
+    parts[0] = parts[1] = noun;
+    CHECK(slif_scan_rule(&scan, phrase, parts, 1, &rule) == SLIF_OK && rule == 0);
+    CHECK(slif_scan_rule(&scan, phrase, parts, 2, &rule) == SLIF_OK && rule == 1);
+    CHECK(slif_scan_start(&scan, phrase) == SLIF_OK);
+    CHECK(slif_scan_precompute(&scan, text, 0, &count) == SLIF_OK && count == 9);
+    CHECK(slif_scan_expected(&scan, symbols, 4, &count) == SLIF_OK && count == 1 && symbols[0] == noun && symbols[1] == 77);
+    CHECK(slif_scan_alternative(&scan, phrase, 1) == SLIF_UNEXPECTED);
+    CHECK(slif_scan_alternative(&scan, 5, 1) == SLIF_UNEXPECTED);
+    CHECK(slif_scan_alternative(&scan, noun, 1) == SLIF_OK);
+    CHECK(slif_scan_alternative(&scan, noun, 2) == SLIF_OK);
+    CHECK(slif_scan_alternative(&scan, noun, 2) == SLIF_DUPLICATE);
+    CHECK(slif_scan_alternative(&scan, noun, 0) == SLIF_BAD_LENGTH);
+    CHECK(slif_scan_alternative(&scan, noun, 1048577) == SLIF_BAD_LENGTH);
+    CHECK(slif_scan_complete(&scan, &place) == SLIF_OK && place == 1);
+    tell_scanned(&scan, 0, 9);
+    CHECK(slif_scan_alternative(&scan, noun, 1) == SLIF_OK);
+    CHECK(slif_scan_complete(&scan, &place) == SLIF_OK && place == 2);
+    symbols[0] = 77;
+    CHECK(slif_scan_expected(&scan, symbols, 4, &count) == SLIF_OK && count == 1 && symbols[0] == noun);   /* after the long one */
+    tell_scanned(&scan, 0, 9);
+    tell_scanned(&scan, 1, 9);
+    tell_scanned(&scan, 0, 1);
+    CHECK(slif_scan_complete(&scan, &place) == SLIF_OK && place == 3);
+    CHECK(slif_scan_expected(&scan, symbols, 4, &count) == SLIF_OK && count == 0);
+    CHECK(slif_scan_alternative(&scan, noun, 1) == SLIF_UNEXPECTED);
+    tell_scanned(&scan, 0, 9);
+    CHECK(slif_scan_restart(&scan) == SLIF_OK);
+    CHECK(slif_scan_alternative(&scan, noun, 3) == SLIF_OK);
+    for (uint32_t k = 1; k <= 3; k++) CHECK(slif_scan_complete(&scan, &place) == SLIF_OK && place == k);
+    tell_scanned(&scan, 0, 9);
+    slif_scan_free(&scan);
+    slif_scan_free(&scan);
+}
+
+/* Items with separators, and a part that spans nothing. */
+static void sequences(void) {
+    slif_scan scan = SLIF_NEW;
+    uint32_t rule = 9, place = 9;
+    CHECK(slif_scan_new(&scan) == SLIF_OK);
+    uint32_t list = symbol_in(&scan, "list"), sign = symbol_in(&scan, "sign"), items = symbol_in(&scan, "items");
+    uint32_t item = symbol_in(&scan, "item"), comma = symbol_in(&scan, "comma");
+    uint32_t parts[2] = { sign, items };
+    CHECK(slif_scan_rule(&scan, list, parts, 2, &rule) == SLIF_OK && rule == 0);
+    CHECK(slif_scan_rule(&scan, sign, parts, 0, &rule) == SLIF_OK && rule == 1);
+    CHECK(slif_scan_sequence(&scan, items, item, true, comma, true, &rule) == SLIF_OK && rule == 2);
+    CHECK(slif_scan_start(&scan, list) == SLIF_OK);
+    uint8_t text[1];
+    size_t length;
+    CHECK(slif_scan_precompute(&scan, text, 0, &length) == SLIF_OK);
+    for (uint32_t k = 0; k < 3; k++) {
+        CHECK(slif_scan_alternative(&scan, k % 2 ? comma : item, 1) == SLIF_OK);
+        CHECK(slif_scan_complete(&scan, &place) == SLIF_OK && place == k + 1);
+    }
+    tell_scanned(&scan, 0, 9);
+    slif_scan_free(&scan);
+}
+
+/* What a grammar refuses while it is built, and why one cannot be read by. */
+static void refused_scans(void) {
+    static uint32_t many[1001];
+    slif_scan scan = SLIF_NEW;
+    slif_parse read = SLIF_NEW;
+    uint32_t number = 9, parts[1] = { 0 };
+    uint8_t text[ROOM] = "";
+    size_t length = 9;
+    CHECK(slif_scan_new(&scan) == SLIF_OK);
+    CHECK(slif_scan_precompute(&scan, text, ROOM, &length) == SLIF_GRAMMAR);
+    printf("%.*s\n", (int)length, (char *)text);
+    CHECK(symbol_in(&scan, "a") == 0 && symbol_in(&scan, "b c") == 1 && symbol_in(&scan, "") == 2);
+    CHECK(slif_scan_symbol(&scan, (const uint8_t *)"\xff", 1, &number) == SLIF_BAD_NAME && number == 9);
+    CHECK(slif_scan_rule(&scan, 3, parts, 1, &number) == SLIF_RANGE && number == 9);
+    parts[0] = 3;
+    CHECK(slif_scan_rule(&scan, 0, parts, 1, &number) == SLIF_RANGE);
+    CHECK(slif_scan_rule(&scan, 0, many, 1001, &number) == SLIF_TOO_MANY && number == 9);
+    CHECK(slif_scan_sequence(&scan, 0, 1, false, 3, false, &number) == SLIF_RANGE);
+    CHECK(slif_scan_sequence(&scan, 0, 3, false, SLIF_NO_SYMBOL, false, &number) == SLIF_RANGE && number == 9);
+    CHECK(slif_scan_start(&scan, 3) == SLIF_RANGE);
+    CHECK(slif_scan_alternative(&scan, 1, 1) == SLIF_NOT_NOW);
+    CHECK(slif_scan_complete(&scan, &number) == SLIF_NOT_NOW);
+    CHECK(slif_scan_expected(&scan, parts, 1, &length) == SLIF_NOT_NOW);
+    CHECK(slif_scan_restart(&scan) == SLIF_NOT_NOW);
+    CHECK(slif_scan_parse(&scan, 0, 1, &read) == SLIF_NOT_NOW && number == 9);
+    parts[0] = 1;
+    CHECK(slif_scan_rule(&scan, 0, parts, 1, &number) == SLIF_OK && number == 0);
+    memset(text, '?', 6);
+    CHECK(slif_scan_precompute(&scan, text, 4, &length) == SLIF_GRAMMAR && length == 15 && memcmp(text, "no s??", 6) == 0);
+    CHECK(slif_scan_start(&scan, 0) == SLIF_OK);
+    CHECK(slif_scan_start(&scan, 0) == SLIF_SECOND_START);
+    CHECK(slif_scan_rule(&scan, 0, parts, 1, &number) == SLIF_OK && number == 1);
+    CHECK(slif_scan_precompute(&scan, text, ROOM, &length) == SLIF_GRAMMAR);
+    printf("%.*s\n", (int)length, (char *)text);
+    CHECK(slif_scan_new(&scan) == SLIF_OK);
+    CHECK(symbol_in(&scan, "a") == 0 && symbol_in(&scan, "b") == 1);
+    CHECK(slif_scan_rule(&scan, 0, parts, 1, &number) == SLIF_OK && slif_scan_start(&scan, 0) == SLIF_OK);
+    CHECK(slif_scan_precompute(&scan, text, ROOM, &length) == SLIF_OK);
+    number = 9;
+    CHECK(slif_scan_symbol(&scan, (const uint8_t *)"a", 1, &number) == SLIF_NOT_NOW && number == 9);
+    CHECK(slif_scan_rule(&scan, 0, parts, 1, &number) == SLIF_NOT_NOW);
+    CHECK(slif_scan_sequence(&scan, 0, 1, false, SLIF_NO_SYMBOL, false, &number) == SLIF_NOT_NOW);
+    CHECK(slif_scan_start(&scan, 0) == SLIF_NOT_NOW);
+    CHECK(slif_scan_precompute(&scan, text, ROOM, &length) == SLIF_NOT_NOW && number == 9);
+    slif_scan_free(&scan);
+    CHECK(slif_scan_symbol(&scan, (const uint8_t *)"a", 1, &number) == SLIF_EMPTY);
+    CHECK(slif_scan_rule(&scan, 0, parts, 1, &number) == SLIF_EMPTY);
+    CHECK(slif_scan_sequence(&scan, 0, 1, false, 1, false, &number) == SLIF_EMPTY && slif_scan_start(&scan, 0) == SLIF_EMPTY);
+    CHECK(slif_scan_precompute(&scan, text, ROOM, &length) == SLIF_EMPTY && slif_scan_restart(&scan) == SLIF_EMPTY);
+    CHECK(slif_scan_alternative(&scan, 1, 1) == SLIF_EMPTY && slif_scan_complete(&scan, &number) == SLIF_EMPTY);
+    CHECK(slif_scan_expected(&scan, parts, 1, &length) == SLIF_EMPTY && slif_scan_parse(&scan, 0, 1, &read) == SLIF_EMPTY);
+}
+
+/* Null pointers, where the header allows them. */
+static void nulls_of_scans(void) {
+    slif_scan scan = SLIF_NEW;
+    uint32_t part, place = 9, symbols[1] = { 77 };
+    size_t count = 9;
+    char message[4] = "???";
+    CHECK(slif_scan_symbol_make(&scan, 0, 5, 0) == SLIF_EMPTY && slif_scan_rule_make(&scan, 0, 0, 5, 0) == SLIF_EMPTY);
+    CHECK(slif_scan_sequence_make(&scan, 0, 0, true, SLIF_NO_SYMBOL, false, 0) == SLIF_EMPTY);
+    CHECK(slif_scan_precompute_make(&scan, 0, 5, 0) == SLIF_EMPTY && slif_scan_complete_make(&scan, 0) == SLIF_EMPTY);
+    CHECK(slif_scan_expected_make(&scan, 0, 5, &count) == SLIF_EMPTY && count == 9);
+    CHECK(slif_scan_new(&scan) == SLIF_OK && slif_scan_new(&scan) == SLIF_OK);
+    CHECK(slif_scan_symbol_make(&scan, 0, 5, 0) == SLIF_OK && slif_scan_symbol_make(&scan, "", 0, &part) == SLIF_OK && part == 0);
+    CHECK(slif_scan_symbol_make(&scan, "item", 4, &part) == SLIF_OK && part == 1);
+    CHECK(slif_scan_precompute_make(&scan, 0, 5, 0) == SLIF_GRAMMAR);
+    CHECK(slif_scan_precompute_make(&scan, message, 2, &count) == SLIF_GRAMMAR && count == 8 && memcmp(message, "no?", 4) == 0);
+    CHECK(slif_scan_symbol_make(&scan, "items", 5, &part) == SLIF_OK && part == 2);
+    CHECK(slif_scan_rule_make(&scan, 0, &part, 1, 0) == SLIF_OK && slif_scan_rule_make(&scan, 0, 0, 5, 0) == SLIF_OK);
+    CHECK(slif_scan_sequence_make(&scan, 2, 1, true, SLIF_NO_SYMBOL, false, 0) == SLIF_OK);
+    CHECK(slif_scan_start(&scan, 0) == SLIF_OK && slif_scan_precompute_make(&scan, 0, 5, 0) == SLIF_OK);
+    CHECK(slif_scan_expected_make(&scan, 0, 5, &count) == SLIF_OK && count == 1);
+    CHECK(slif_scan_expected_make(&scan, symbols, 1, &count) == SLIF_OK && symbols[0] == 1);
+    CHECK(slif_scan_alternative(&scan, 1, 1) == SLIF_OK && slif_scan_complete_make(&scan, 0) == SLIF_OK);
+    CHECK(slif_scan_complete_make(&scan, &place) == SLIF_OK && place == 2);
+    slif_scan_free(&scan);
+}
+
 /* Bytes of no sense, by a fixed generator. */
 static void noise(void) {
     static const char ALPHABET[] = "E ::=|'+1~[]()\\\n#\xc3\xa9\xff";
@@ -213,6 +418,53 @@ static void threads(void) {
     for (int i = 0; i < 4; i++) CHECK(pthread_join(thread[i], 0) == 0);
 }
 
+/* Two handles of one grammar: either may be freed first, and a handle that is shared into lets go what it had. */
+static void sharing(void) {
+    slif_grammar grammar = grammar_of(SUM), other = grammar_of("S ::= 'a'\n"), none = SLIF_NEW;
+    slif_parse read = SLIF_NEW;
+    size_t symbols, rules;
+    CHECK(slif_grammar_share(&none, &other) == SLIF_EMPTY);
+    CHECK(slif_grammar_counts(&other, &symbols, &rules) == SLIF_OK && symbols == 2 && rules == 1);
+    CHECK(slif_grammar_share(&grammar, &other) == SLIF_OK && slif_grammar_share(&other, &none) == SLIF_OK);
+    CHECK(slif_grammar_counts(&none, &symbols, &rules) == SLIF_OK && symbols == 3 && rules == 2);
+    slif_grammar_free(&grammar);
+    CHECK(parse(&read, &other, "1+1", 0, 1) == SLIF_OK && parse(&read, &grammar, "1+1", 0, 1) == SLIF_EMPTY);
+    slif_grammar_free(&none);
+    CHECK(parse(&read, &other, "1+1+1", 0, 1) == SLIF_OK);
+    slif_grammar_free(&other);
+    slif_parse_free(&read);
+}
+
+/* Threads that read by one grammar side by side, each by a handle of its own. */
+static void *read_beside(void *handed) {
+    slif_parse read = SLIF_NEW;
+    uint64_t derivations;
+    bool more;
+    for (int k = 0; k < 500; k++) {
+        CHECK(parse(&read, handed, k % 2 ? "1+1+1+1" : "1+1+1", 0, 100) == SLIF_OK);
+        CHECK(slif_parse_counts(&read, &derivations, &more) == SLIF_OK && derivations == (k % 2 ? 5 : 2) && !more);
+        slif_grammar again = SLIF_NEW;
+        CHECK(slif_grammar_share(handed, &again) == SLIF_OK);
+        slif_grammar_free(handed);
+        CHECK(slif_grammar_share(&again, handed) == SLIF_OK);
+        slif_grammar_free(&again);
+    }
+    slif_parse_free(&read);
+    slif_grammar_free(handed);
+    return 0;
+}
+
+static void threads_of_one_grammar(void) {
+    pthread_t thread[4];
+    slif_grammar grammar = grammar_of(SUM), handed[4] = { SLIF_NEW, SLIF_NEW, SLIF_NEW, SLIF_NEW };
+    for (int i = 0; i < 4; i++) {
+        CHECK(slif_grammar_share(&grammar, &handed[i]) == SLIF_OK);
+        CHECK(pthread_create(&thread[i], 0, read_beside, &handed[i]) == 0);
+    }
+    slif_grammar_free(&grammar);
+    for (int i = 0; i < 4; i++) CHECK(pthread_join(thread[i], 0) == 0);
+}
+
 int main(void) {
     static const char UNDEFINED[] = "# fault.slif\nlexeme default = latm => 1\nSum ::= Sum '+' Number | Number\n";
     tell_derivations(SUM, "1+1+1");
@@ -227,8 +479,15 @@ int main(void) {
     refuse_input(0, 5);
     short_room();
     expecting();
+    lines();
+    overlapping();
+    sequences();
+    refused_scans();
+    nulls_of_scans();
     noise();
     threads();
+    sharing();
+    threads_of_one_grammar();
     puts("all well");
     return 0;
 }

@@ -16,7 +16,7 @@ use Rattle.recognizer_model.specs.Links.{PlacedLink}
 use Rattle.earley_sets.specs.Counted.{IsLinkOf, CountsFrom, TakesAtMost}
 use Rattle.earley_sets.proofs.ByRows.{goes_forward}
 use Rattle.earley_sets.proofs.Recognizing.{top_is_top}
-use Rattle.earley_sets.proofs.Rising.{rises_none, rises_as, rises_over, rises_on, rises_moved, different_are_few}
+use Rattle.begun_lists.proofs.Rising.{rises_none, rises_as, rises_over, rises_on, rises_moved, different_are_few}
 
 -- links over edges that are the same up to the place
 same_link : (g : FlatGrammar) (top : ℕ) (is_top : IsTop g top) (E F : Edges) → GoesForward E → GoesForward F → (earleme : ℕ) (link : Link) → AgreeTo earleme E F → IsLink g E top earleme link → IsLink g F top earleme link

@@ -1,18 +1,17 @@
 use Rattle.std.proofs.Common.{◌≡◌, ◌≢◌, ℕ, ◌+◌, ◌<◌, ◌≤◌, ◌++◌, append_assoc, take, ◌↔◌, ◌⊎◌, inl, inr, List, [], ◌∷◌, map, slice_get, Some, None, Contains, refl, sym, ◌∙◌, ap, subst, arith}
 use Rattle.std.proofs.lemmas.List.{take_more}
 use Rattle.std.proofs.lemmas.List.Elements.{Contains-append_left, Contains-append_right, Contains-push, Contains-push_cases, Contains-append_cases}
-use Rattle.std.proofs.lemmas.Option.{slice_get_within}
 use Rattle.finite_sets.proofs.Lists.{Contains-map, get_index, get_end, none_at_end}
 use Rattle.recognizer_model.specs.declared.Item.{Item}
 use Rattle.recognizer_model.specs.Flat.{FlatGrammar, lhs_of, rhs_of, IsNullable}
 use Rattle.recognizer_model.specs.Items.{after, advanced}
 use Rattle.recognizer_model.specs.Counts.{IsListOf}
 use Rattle.item_rows.specs.Rows.{row_at}
-use Rattle.earley_sets.specs.Kept.{IsItem, AreRows}
+use Rattle.earley_sets.specs.Kept.{IsItem}
 use Rattle.recognizer_model.specs.declared.Pair.{Pair}
 use Rattle.leo_items.specs.ByRows.{IsNotLeoIn, LeadsIn, pair_of}
-use Rattle.leo_items.proofs.Chains.{has_leo, leads_one, leads_item}
-use Rattle.earley_sets.specs.Closing.{IsAdvancedOver, IsSkipped, IsDone, Follows, Predicts, Skips, Completes, Leaps, GoesOn}
+use Rattle.leo_items.proofs.Chains.{has_leo, leads_one}
+use Rattle.begun_lists.specs.Closing.{IsAdvancedOver, IsSkipped, IsDone, Follows, Predicts, Skips, Completes, Leaps, GoesOn}
 use Rattle.earley_sets.proofs.Membership.{Contains-map_from}
 
 -- one more item with its dot advanced
@@ -27,17 +26,6 @@ advanced_more row k x is first old new y before more same =
     map_append : (xs : List Item) → map advanced (xs ++ x ∷ []) ≡ map advanced xs ++ advanced x ∷ []
     map_append [] = refl
     map_append (z ∷ xs) = ap (λ l. advanced z ∷ l) (map_append xs)
-
--- an item skipped over the symbol that it waits for
-module _ (g : FlatGrammar) (item : Item) (x : ℕ) (old : List Item) where
-  pub has_skipped : (new : List Item) → new ≡ old ++ advanced item ∷ [] → IsNullable g x → (other : Item) → Contains new other ↔ (Contains old other ⊎ IsSkipped g item x other)
-  has_skipped new e n other = subst (λ l. Contains l other ↔ (Contains old other ⊎ IsSkipped g item x other)) (sym e) (
-    λ h. elim (Contains-push_cases old (advanced item) other h) [ inl o ↦ inl o | inr same ↦ inr (n, sym same) ],
-    λ h. elim h [ inl o ↦ Contains-append_left old (advanced item ∷ []) other o | inr (n', same) ↦ subst (Contains (old ++ advanced item ∷ [])) (sym same) (Contains-push old (advanced item)) ],
-  )
-
-  pub none_skipped : (¬ IsNullable g x) → (other : Item) → Contains old other ↔ (Contains old other ⊎ IsSkipped g item x other)
-  none_skipped none other = (λ o. inl o, λ h. elim h [ inl o ↦ o | inr (n, same) ↦ absurd (none n) ])
 
 -- the items that wait for a symbol, with their dots advanced
 module _ (g : FlatGrammar) (items part : List Item) (x : ℕ) (lists : IsListOf (λ item. Contains items item × (after g item ≡ Some x)) part) (old new : List Item) (is : new ≡ old ++ map advanced part) where
@@ -124,12 +112,3 @@ module _ (g : FlatGrammar) (rows : List (List Item)) (earleme : ℕ) (item : Ite
 
     pub goes_nowhere : (old : List Item) → earleme ≤ item.origin → (other : Item) → Contains old other ↔ (Contains old other ⊎ GoesOn g rows earleme item other)
     goes_nowhere old le other = (λ o. inl o, λ h. elim h [ inl o ↦ o | inr (f, behind) ↦ let (lt, c) = done_from other f in absurd (omega arith) ])
-
--- what follows from an item is one
-pub follows_item : (g : FlatGrammar) (rows : List (List Item)) (earleme : ℕ) (item : Item) → IsItem g item → AreRows g rows →
-    (other : Item) → Follows g rows earleme item other → IsItem g other
-follows_item g rows earleme item is are other (Predicts e rule l) = record { is_rule = rule; within = omega arith }
-follows_item g rows earleme item is are other (Skips {x = x} e n) = record { is_rule = is.is_rule; within = slice_get_within (rhs_of g item.rule) item.dot x e }
-follows_item g rows earleme item is are other (Leaps whole lt leads) = leads_item g rows are leads
-follows_item g rows earleme item is are other (Completes {waiting = w} whole lt none i e) =
-    let is' = (are item.origin).items w i in record { is_rule = is'.is_rule; within = slice_get_within (rhs_of g w.rule) w.dot _ e }

@@ -1,23 +1,17 @@
-pub mod Cutting
 pub mod Membership
 pub mod Following
-pub mod Listing
-pub mod Beginning
-pub mod Begins
-pub mod Noting
-pub mod Sharing
-pub mod Symbols
-pub mod Starting
+pub mod Parting
 pub mod ByRows
 pub mod Scanning
-pub mod Rising
 pub mod Trying
 pub mod Making
 pub mod Splitting
 pub mod Nulling
 pub mod Hiding
 pub mod Recognizing
+pub mod Twice
 pub mod Exact
 pub mod Counting
 pub mod Expanding
 pub mod Below
+mod Unbinding

@@ -5,10 +5,10 @@ use Rattle.recognizer_model.specs.Flat.{FlatGrammar, IsRule, lhs_of, IsNullable}
 use Rattle.recognizer_model.specs.Items.{after}
 use Rattle.recognizer_model.specs.Links.{Link, Predicts, Skips, Scans, Completes, Leaps}
 use Rattle.item_rows.specs.Kept.{IsAwaited}
-use Rattle.earley_sets.specs.Begun.{AreAwaited, Begins, AreBegun, IsBegun}
-use Rattle.earley_sets.specs.Tried.{RisesWithin, MakesOneLater, IsRuleOf, TriesBegun, TriesList}
-use Rattle.earley_sets.proofs.Begins.{begins_item}
-use Rattle.earley_sets.proofs.Rising.{rises_none, rises_over, rises_on, rises_moved, rises_chosen}
+use Rattle.begun_lists.specs.Begun.{AreAwaited, Begins, AreBegun, IsBegun}
+use Rattle.begun_lists.specs.Tried.{RisesWithin, MakesOneLater, IsRuleOf, TriesBegun, TriesList}
+use Rattle.begun_lists.proofs.Begins.{begins_item}
+use Rattle.begun_lists.proofs.Rising.{rises_none, rises_over, rises_on, rises_moved, rises_chosen}
 
 -- a link with its items at a place
 moved : ℕ → Link → Link

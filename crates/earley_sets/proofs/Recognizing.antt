@@ -45,16 +45,11 @@ use Rattle.leo_items.proofs.Chains.{memo_stays, memo_none, memo_pairs}
 use Rattle.earley_sets.proofs.ByRows.{known, to_leo}
 use Rattle.earley_sets.specs.Scanning.{GoForward, AreReduced}
 use Rattle.earley_sets.specs.Recognizer.{Recognizer, IsKept, earleme_of, edges_of, top_of, made, start_symbol, IsExpected, HasTree}
-use Rattle.earley_sets.specs.Tried.{RisesWithin}
+use Rattle.begun_lists.specs.Tried.{RisesWithin}
+use Rattle.begun_lists.proofs.Following.{nothing_there, no_rows}
 
 abbrev pub recognizer : FlatGrammar → ℕ → List HeldEdge → List (List Item) → List Note → Recognizer
 recognizer g start edges rows notes = record { flat = g; start = start; edges = edges; sets = rows; noted = pairs_of notes }
-
-nothing_there : (g : FlatGrammar) (i : ℕ) → IsRowOf g i []
-nothing_there g i = record {
-  items = λ item h. absurd (Contains-none item h);
-  begun = λ item h. absurd (Contains-none item h);
-}
 
 -- the rows of the places so far, and one more
 pub row_before : (rows : List (List Item)) (row : List Item) (i : ℕ) → i < length rows → row_at (rows ++ row ∷ []) i ≡ row_at rows i
@@ -71,9 +66,6 @@ rows_more g rows row are is i = elim (cases_lt i (length rows)) [
     | inr le ↦ let here : i ≡ length rows = omega arith in subst (IsRowOf g i) (sym (row_last rows row i here)) (subst (λ k. IsRowOf g k row) (sym here) is)
   ]
 ]
-
-pub no_rows : (g : FlatGrammar) → AreRows g []
-no_rows g i = nothing_there g i
 
 pub top_is_top : (g : FlatGrammar) (start top : ℕ) → IsFlat g → start < length g.tops → top ≡ slice_index g.tops start → IsTop g top
 top_is_top g start top flat lt e = subst (IsTop g) (sym e) (flat.tops start (slice_index g.tops start) (slice_get-get_or g.tops start 0 lt)).is_top

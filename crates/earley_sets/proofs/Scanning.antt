@@ -14,12 +14,12 @@ use Rattle.recognizer_model.specs.Items.{first_item, advanced, InSet}
 use Rattle.recognizer_model.specs.Contexts.{IsTop}
 use Rattle.item_rows.specs.Rows.{row_at}
 use Rattle.earley_sets.specs.Kept.{IsItem, AreItems}
-use Rattle.earley_sets.specs.Closing.{IsAdvancedOver, Follows, GoesOn, Predicts, Skips, Completes, Leaps, IsReached, Seed, Step}
+use Rattle.begun_lists.specs.Closing.{IsAdvancedOver, Follows, GoesOn, Predicts, Skips, Completes, Leaps, IsReached, Seed, Step}
 use Rattle.earley_sets.specs.Scanning.{IsScannedBy, IsScanned, IsSeed, GoForward, AreReduced}
 use Rattle.recognizer_model.specs.Leo.{InReduced}
 use Rattle.recognizer_model.proofs.Leo.{reduced_inside}
 use Rattle.earley_sets.proofs.ByRows.{goes_forward, to_none, from_none, to_leads, from_leads}
-use Rattle.earley_sets.proofs.Cutting.{take_next}
+use Rattle.begun_lists.proofs.Cutting.{take_next}
 
 -- no two symbols stand for the same thing
 abbrev pub Differ : FlatGrammar → Type 0

@@ -12,13 +12,14 @@ use Rattle.recognizer_model.specs.Links.{Link, Predicts, Skips, Scans, Completes
 use Rattle.recognizer_model.proofs.Leo.{origin_below, reduced_inside}
 use Rattle.item_rows.specs.Rows.{IsBegunAt}
 use Rattle.item_rows.specs.Kept.{IsAwaited, AreRows, IsRowOf}
-use Rattle.earley_sets.specs.Begun.{AreBegun, IsBegun}
+use Rattle.begun_lists.specs.Begun.{AreBegun, IsBegun}
 use Rattle.earley_sets.specs.Scanning.{GoForward, AreReduced, IsKernel}
-use Rattle.earley_sets.specs.Tried.{RisesWithin, MakesKernel, TriesList}
-use Rattle.earley_sets.proofs.Begins.{splits, apart, begun_at_place}
+use Rattle.begun_lists.specs.Tried.{RisesWithin, TriesList}
+use Rattle.earley_sets.specs.Tried.{MakesKernel}
+use Rattle.earley_sets.proofs.Parting.{splits, apart, begun_at_place}
 use Rattle.earley_sets.proofs.ByRows.{goes_forward}
 use Rattle.earley_sets.proofs.Making.{MakesBegun, list_tried}
-use Rattle.earley_sets.proofs.Rising.{rises_on}
+use Rattle.begun_lists.proofs.Rising.{rises_on}
 use Rattle.earley_sets.proofs.Scanning.{kernel_inside, reached_is_reduced, reduced_items}
 use Rattle.earley_sets.proofs.Trying.{kernel_link}
 

@@ -2,7 +2,7 @@
 use Rattle.std.specs.Prelude.{ℕ, ◌+◌, ◌≤◌}
 use Rattle.recognizer_model.specs.Counts.{IsCountOf}
 use Rattle.recognizer_model.specs.Links.{PlacedLink, IsPlacedLink}
-use Rattle.earley_sets.specs.Tried.{RisesWithin}
+use Rattle.begun_lists.specs.Tried.{RisesWithin}
 use Rattle.earley_sets.specs.Recognizer.{Recognizer, earleme_of, edges_of, top_of, made, IsLeoPair}
 
 -- a link of the set of a place after the first

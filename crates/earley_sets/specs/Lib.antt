@@ -1,9 +1,9 @@
 pub mod Kept
-pub mod Closing
-pub mod Begun
 pub mod Scanning
 pub mod Tried
 pub mod Recognizer
 pub mod Counted
 pub mod Below
+pub mod Hiding
 pub mod Laws
+pub mod Unbound

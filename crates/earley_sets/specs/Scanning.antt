@@ -10,7 +10,7 @@ use Rattle.recognizer_model.specs.FlatForm.{FlatEdges}
 use Rattle.recognizer_model.specs.Items.{after, first_item, advanced}
 use Rattle.recognizer_model.specs.Leo.{InReduced}
 use Rattle.item_rows.specs.Rows.{row_at}
-use Rattle.earley_sets.specs.Closing.{GoesOn, IsReached}
+use Rattle.begun_lists.specs.Closing.{GoesOn, IsReached}
 use Rattle.earley_sets.specs.Kept.{IsRowOf}
 
 -- an edge of a terminal leads from an item that waits for it

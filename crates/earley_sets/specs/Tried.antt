@@ -1,23 +1,16 @@
 -- The links that are tried while a set is made.
-use Rattle.std.specs.Prelude.{◌≡◌, ◌≢◌, ℕ, ◌+◌, ◌<◌, ◌⊎◌, List, length, Some, slice_get, Contains, AllPairs}
+use Rattle.std.specs.Prelude.{◌≡◌, ℕ, ◌+◌, ◌<◌, ◌⊎◌, List, Some, slice_get, Contains}
 use Rattle.grammar_model.specs.Derives.{Held}
 use Rattle.grammar_model.specs.declared.Edge.{Edge as HeldEdge}
 use Rattle.recognizer_model.specs.declared.Item.{Item}
-use Rattle.recognizer_model.specs.Flat.{FlatGrammar, IsRule, lhs_of, IsNullable}
+use Rattle.recognizer_model.specs.Flat.{FlatGrammar, lhs_of, IsNullable}
 use Rattle.recognizer_model.specs.declared.flat.FlatSymbol.TheVariants.{Terminal}
 use Rattle.recognizer_model.specs.Items.{after, IsWhole}
 use Rattle.recognizer_model.specs.FlatForm.{FlatEdges}
 use Rattle.recognizer_model.specs.Links.{Link, Predicts, Skips, Scans, Completes, Leaps, IsLink}
 use Rattle.item_rows.specs.Rows.{row_at}
 use Rattle.leo_items.specs.ByRows.{IsNotLeoIn, LeadsIn}
-use Rattle.earley_sets.specs.Begun.{AreAwaited}
-
--- the number rises by one for each of some different values with the property
-pub record RisesWithin {A : Type 0} (P : A → Type 0) (old new : ℕ) : Type 0 where
-  pub values : List A
-  pub once : AllPairs (λ x y. x ≢ y) values
-  pub are : (x : A) → Contains values x → P x
-  pub count : new ≡ old + length values
+use Rattle.begun_lists.specs.Tried.{RisesWithin}
 
 -- the number rises by one for each link of the set of a place
 abbrev pub RisesWithinLinks : FlatGrammar → List HeldEdge → (top earleme : ℕ) → (old new : ℕ) → Type 0
@@ -35,10 +28,6 @@ AwaitsEdge g rows edge item = (x : ℕ) × (slice_get g.symbols x ≡ Some (Term
 abbrev pub MakesScan : FlatGrammar → List (List Item) → (earleme : ℕ) → List HeldEdge → Link → Type 0
 MakesScan g rows earleme edges link =
     (edge : HeldEdge) × Contains edges edge × (edge.to ≡ earleme) × ((item : Item) × AwaitsEdge g rows edge item × (link ≡ Scans item edge.from))
-
--- the link of an item that waits for the symbol with what skipping makes of it
-abbrev pub MakesSkip : FlatGrammar → Item → (symbol : ℕ) → Link → Type 0
-MakesSkip g item x link = IsNullable g x × (link ≡ Skips item)
 
 -- the number rises by one for each item that the completion of the symbol advances, or by one where it leaps
 abbrev pub RisesWithinDone : FlatGrammar → (rows : List (List Item)) → (i x : ℕ) → (old new : ℕ) → Type 0
@@ -60,25 +49,3 @@ MakesOne g rows earleme items link = (item : Item) × Contains items item × Mak
 -- an edge to the place makes the link, or an item of the kernel
 abbrev pub MakesKernel : FlatGrammar → (rows : List (List Item)) → (earleme : ℕ) → List HeldEdge → List Item → Link → Type 0
 MakesKernel g rows earleme edges items link = MakesScan g rows earleme edges link ⊎ MakesOne g rows earleme items link
-
--- the links that an item makes that begins
-abbrev pub MakesLater : FlatGrammar → Item → Link → Type 0
-MakesLater g item (Predicts before r) = (before ≡ item) × ((x : ℕ) × (after g item ≡ Some x) × IsRule g r × (lhs_of g r ≡ x))
-MakesLater g item (Skips before) = (before ≡ item) × ((x : ℕ) × (after g item ≡ Some x) × IsNullable g x)
-MakesLater g item (Scans before from) = ⊥
-MakesLater g item (Completes whole waiting) = ⊥
-MakesLater g item (Leaps whole) = ⊥
-
-abbrev pub MakesOneLater : FlatGrammar → List Item → Link → Type 0
-MakesOneLater g items link = (item : Item) × Contains items item × MakesLater g item link
-
-abbrev pub IsRuleOf : FlatGrammar → (symbols : List ℕ) → ℕ → Type 0
-IsRuleOf g symbols r = IsRule g r × Contains symbols (lhs_of g r)
-
--- the number rises by one for each rule of the symbols, and then by one for each link of the items that begin
-abbrev pub TriesBegun : FlatGrammar → (symbols : List ℕ) → List Item → (old new : ℕ) → Type 0
-TriesBegun g symbols items old new = (mid : ℕ) × RisesWithin (IsRuleOf g symbols) old mid × RisesWithin (MakesOneLater g items) mid new
-
--- no step is needed where the list is there; else the tries that it takes to make it
-abbrev pub TriesList : FlatGrammar → List Item → (list : List Item) → (old new : ℕ) → Type 0
-TriesList g items list old new = (new ≡ old) ⊎ ((symbols : List ℕ) × AreAwaited g items symbols × TriesBegun g symbols list old new)

@@ -1,96 +1,69 @@
 //! Sets that are closed: what an item leads to is there too.
-ghost use Rattle.std.specs.Prelude.{◌≡◌, ◌≢◌, ℕ, ◌<◌, ◌≤◌, ◌+◌, ◌^◌, ◌↔◌, ◌⊎◌, [], length, slice_get, Some, OnOk, Contains};
-ghost use Rattle.std.specs.List.{AllPairs};
+ghost use Rattle.std.specs.Prelude.{◌≡◌, ◌<◌, ◌≤◌, ◌+◌, ◌↔◌, ◌⊎◌, length, Some, OnOk, IfOk, IsTrue, Contains};
 ghost use Rattle.recognizer_model.specs.declared.Item.{Item};
 ghost use Rattle.grammar_model.specs.declared.Edge.{Edge as HeldEdge};
 ghost use Rattle.recognizer_model.specs.Contexts.{IsTop};
 ghost use Rattle.recognizer_model.specs.Items.{first_item};
 ghost use Rattle.leo_items.specs.ByRows.{IsMemo, NotesMore, AreNulled};
-ghost use Rattle.earley_sets.specs.Kept.{IsItem, AreItems, HasRows};
+ghost use Rattle.earley_sets.specs.Kept.{AreItems, HasRows};
 ghost use Rattle.item_rows.specs.Heads.{AreHeads};
-ghost use Rattle.earley_sets.specs.Closing.{Adds, GoesOn, IsReached, Grows};
+ghost use Rattle.begun_lists.specs.Closing.{GoesOn, IsReached};
 ghost use Rattle.earley_sets.specs.Scanning.{IsScanned, IsScannedBy, IsSeed, IsKernel, GoForward, AreReduced};
-ghost use Rattle.earley_sets.specs.Tried.{RisesWithin, AwaitsEdge, MakesScan, MakesOne, MakesKernel};
+ghost use Rattle.begun_lists.specs.Tried.{RisesWithin};
+ghost use Rattle.earley_sets.specs.Tried.{AwaitsEdge, MakesScan, MakesOne, MakesKernel};
+ghost use Rattle.earley_sets.specs.Hiding.{OneStepsTwice};
 
 use crate::follow::{list_completed, list_next};
+use begun_lists::{add_items, refill};
 use grammar_core::{Flat, SymbolId, TokenEdges};
 use grammar_model::Edge as HeldEdge;
-use indexmap::IndexSet;
 use item_rows::{Heads, Rows, symbol_of};
+use item_sets::ItemSet;
 use leo_items::Memo;
 use recognizer_model::Item;
 use slif_base::Steps;
 use std::alloc::{AllocError, AllocFailed, Global};
 use std::sync::ledger::Ledger;
 
-/// Tries to add an item, and counts the try.
-pub fn add_item<L: Ledger>(
-    set: &mut IndexSet<Item>,
-    item: Item,
-    steps: &mut Steps<L>,
-) -> Result<(), AllocFailed<Item>>
-    ensures added { OnOk result (Adds set.old.keys set.new.keys item) }
-    ensures counted { steps.new ≡ steps.old + 1 }
+fn either(a: bool, b: bool) -> bool
+    ensures { IsTrue result ↔ (IsTrue a ⊎ IsTrue b) }
 {
-    steps.tick();
-    set.insert(item)?;
-    Ok(())
+    a || b
 }
 
-/// Adds the items that are not there yet.
-pub fn add_items<L: Ledger>(
-    set: &mut IndexSet<Item>,
-    items: &[Item],
-    steps: &mut Steps<L>,
-) -> Result<(), AllocFailed<Item>>
-    ensures grows { OnOk result (Grows set.old.keys set.new.keys items.now) }
-    ensures counted { OnOk result (steps.new ≡ steps.old + length items.now) }
-{
-    for item in items {
-        add_item(set, *item, steps)?;
-    }
-    Ok(())
-}
-
-/// The item of that number, in a set that has each item once.
-pub fn item_at(set: &IndexSet<Item>, k: usize) -> Option<Item>
-    ensures item { result ≡ slice_get set.now.keys k }
-    ensures once { AllPairs (λ x y. x ≢ y) set.now.keys }
-    ensures small { length set.now.keys < 2 ^ 63 }
-{
-    let _len = set.len();
-    set.get_index(k).copied()
-}
-
-// Adds whatever goes on from the items of the set.
+// Adds whatever goes on from the items of the set. Whether two single steps lead on from one of them.
 fn close<L: Ledger>(
     flat: &Flat,
     rows: &Rows<'_>,
     memo: &mut Memo,
     earleme: u32,
-    set: &mut IndexSet<Item>,
+    set: &mut ItemSet,
     next: &mut Vec<Item>,
     steps: &mut Steps<L>,
-) -> Result<(), AllocError>
-    requires items { AreItems flat.now set.old.keys }
+) -> Result<bool, AllocError>
+    requires items { AreItems flat.now set.old }
     requires rows { HasRows flat.now rows.now }
     requires nulled { AreNulled flat.now rows.now.sets }
     requires memo { IsMemo flat.now rows.now.sets memo.old }
     requires earleme { earleme ≤ length rows.now.sets }
-    ensures items { OnOk result (AreItems flat.now set.new.keys) }
+    ensures items { OnOk result (AreItems flat.now set.new) }
     ensures memo { NotesMore flat.now rows.now.sets memo.old memo.new }
-    ensures closed { OnOk result ((item : Item) → Contains set.new.keys item ↔
-        IsReached (GoesOn flat.now rows.now.sets earleme) set.old.keys item) }
-    ensures counted { OnOk result (RisesWithin (MakesOne flat.now rows.now.sets earleme set.new.keys)
+    ensures closed { OnOk result ((item : Item) → Contains set.new item ↔
+        IsReached (GoesOn flat.now rows.now.sets earleme) set.old item) }
+    ensures counted { OnOk result (RisesWithin (MakesOne flat.now rows.now.sets earleme set.new)
         (steps.old + length memo.new) (steps.new + length memo.old)) }
+    ensures twice { IfOk result (λ twice.
+        IsTrue twice ↔ OneStepsTwice flat.now rows.now.sets earleme set.new) }
 {
+    let mut twice = false;
     for k in 0..usize::MAX {
-        let Some(item) = item_at(set, k) else {
-            return Ok(());
+        let Some(item) = set.get(k) else {
+            return Ok(twice);
         };
         next.clear();
-        list_next(flat, rows, memo, earleme, item, next, steps)?;
+        let goes = list_next(flat, rows, memo, earleme, item, next, steps)?;
         add_items(set, next, steps)?;
+        twice = either(twice, goes);
     }
     let _len = set.len();
     unreachable!()
@@ -185,32 +158,9 @@ fn list_seeds(
     list_scanned(flat, heads, rows, edges, earleme, ending, next)
 }
 
-// Lets all items go. An empty set costs no more than a look.
-fn empty(set: &mut IndexSet<Item>)
-    ensures { set.new.keys ≡ [] }
-{
-    if !set.is_empty() {
-        set.clear();
-    }
-}
-
-/// Begins a set anew with these items.
-pub fn refill<L: Ledger>(
-    set: &mut IndexSet<Item>,
-    items: &[Item],
-    steps: &mut Steps<L>,
-) -> Result<(), AllocFailed<Item>>
-    ensures same { OnOk result ((item : Item) →
-        Contains set.new.keys item ↔ Contains items.now item) }
-    ensures counted { OnOk result (steps.new ≡ steps.old + length items.now) }
-{
-    empty(set);
-    add_items(set, items, steps)
-}
-
 /// What is used while a set is made.
 pub struct Work {
-    pub set: IndexSet<Item>,
+    pub set: ItemSet,
     pub next: Vec<Item>,
     pub ending: Vec<HeldEdge>,
 }
@@ -229,14 +179,14 @@ impl Work {
     /// Nothing done yet.
     pub(crate) fn new(alloc: Global) -> Work {
         Work {
-            set: IndexSet::new(alloc),
+            set: ItemSet::new(alloc),
             next: Vec::new(alloc),
             ending: Vec::new(alloc),
         }
     }
 }
 
-/// Makes the kernel of the set of a place. Nothing is known of the set after an error.
+/// Makes the kernel of the set of a place, and tells whether two single steps lead on from an item of it. Nothing is known of the set after an error.
 pub fn make_kernel<L: Ledger>(
     flat: &Flat,
     heads: &Heads,
@@ -247,7 +197,7 @@ pub fn make_kernel<L: Ledger>(
     earleme: u32,
     work: &mut Work,
     steps: &mut Steps<L>,
-) -> Result<(), AllocError>
+) -> Result<bool, AllocError>
     requires heads { AreHeads flat.now heads.now }
     requires top { IsTop flat.now top }
     requires sets { AreReduced flat.now edges.now top rows.now.sets earleme }
@@ -256,13 +206,15 @@ pub fn make_kernel<L: Ledger>(
     requires earleme { earleme ≡ length rows.now.sets }
     requires begun { (e : HeldEdge) → Contains edges.now e → e.from < length rows.now.sets }
     requires forward { GoForward edges.now }
-    ensures items { OnOk result (AreItems flat.now work.new.set.keys) }
+    ensures items { OnOk result (AreItems flat.now work.new.set) }
     ensures memo { NotesMore flat.now rows.now.sets memo.old memo.new }
     ensures kernel { OnOk result (IsKernel flat.now rows.now.sets top earleme edges.now
-        work.new.set.keys) }
+        work.new.set) }
     ensures counted { OnOk result (0 < earleme →
-        RisesWithin (MakesKernel flat.now rows.now.sets earleme edges.now work.new.set.keys)
+        RisesWithin (MakesKernel flat.now rows.now.sets earleme edges.now work.new.set)
         (steps.old + length memo.new) (steps.new + length memo.old)) }
+    ensures twice { IfOk result (λ twice.
+        IsTrue twice ↔ OneStepsTwice flat.now rows.now.sets earleme work.new.set) }
 {
     list_seeds(
         flat,

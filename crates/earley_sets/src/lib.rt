@@ -1,16 +1,14 @@
 //! A recognizer with Leo's reduced Earley sets over any flat grammar, which tells exactly the terminals that some continuation takes.
 #![tactic(auto)]
 
-mod awaited;
-mod begun;
 mod close;
 mod follow;
-mod lists;
+mod noted;
 mod recce;
 
 ghost use Rattle.earley_sets.specs.Laws.{ExpectedAreAcceptable, TreesAreDerivations, TriesAreFew};
 
-pub use recce::{Alike, AlternativeRefusal, Recce, SetView};
+pub use recce::{Alike, AlternativeRefusal, Recce, SetView, UnboundRecce};
 use recognizer_model::{acceptable_are_flat, flat_grammars_are_flat_forms};
 
 /// Over the flat grammar of a checked one, the expected terminals are those that are acceptable to the checked grammar.

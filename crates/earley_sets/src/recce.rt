@@ -12,23 +12,27 @@ ghost use Rattle.recognizer_model.specs.Items.{InSet, IsWhole, after};
 ghost use Rattle.recognizer_model.specs.Leo.{InReduced, IsHidden};
 ghost use Rattle.recognizer_model.specs.Links.{Link, IsLink};
 ghost use Rattle.leo_items.specs.ByRows.{IsMemo, NotesMore};
+ghost use Rattle.leo_items.specs.Hidden.{SomeStepsTwiceIn};
 ghost use Rattle.earley_sets.specs.Kept.{HasRows};
 ghost use Rattle.item_rows.specs.Heads.{AreHeads};
-ghost use Rattle.earley_sets.specs.Begun.{AreLists};
+ghost use Rattle.begun_lists.specs.Met.{AreFound};
 ghost use Rattle.earley_sets.specs.Scanning.{GoForward, AreReduced, AddsRow};
 ghost use Rattle.earley_sets.specs.Tried.{RisesWithinLinks};
 ghost use Rattle.earley_sets.specs.Below.{StepsTo, SomeStepsTwice, LeadsUp, IsBottom, IsBottomOf, StandsBelowOf};
 ghost use Rattle.earley_sets.specs.Recognizer.{Recognizer, earleme_of, set_at, edges_of, top_of, made, new_edge, IsExpected, WaitsAt, HasTree, IsRecognizer};
+ghost use Rattle.earley_sets.specs.Unbound.{IsUnboundOf, recognizer_with};
 ghost use Rattle.earley_sets.specs.declared.recce.AlternativeRefusal.TheVariants.{Unexpected, Duplicate, BadLength};
 
 use crate::close::{Work, make_kernel};
-use crate::lists::{Lists, find_list, new_lists};
+use crate::noted::{leads_twice, make_room, note_at, note_place};
+use begun_lists::{Lists, find_list, new_lists};
 use expected_terminals::{
-    Expected, copy_of, expect_row, forget, has_terminal, new_expected, place_alike, terminals,
+    Expected, copy_of, expect_row, forget, has_terminal, list_number, new_expected, place_alike,
+    terminals,
 };
 use grammar_core::{EdgeRefusal, Flat, SymbolId, TokenEdges};
-use item_rows::{Heads, Row, Rows, list_heads, symbol_of};
-use leo_items::{Memo, list_below, list_hidden, some_steps_twice, top_above};
+use item_rows::{Heads, Row, Rows, UnboundRows, list_heads, symbol_of};
+use leo_items::{Memo, list_below, list_hidden, top_above};
 use recognizer_model::Item;
 use slif_base::Steps;
 use std::alloc::{AllocError, Global};
@@ -36,7 +40,7 @@ use std::marker::{Brand, Model};
 use std::sync::ledger::{Blank, Ledger};
 use thiserror::Error;
 
-// Makes the set of the place after the last row, as a row.
+// Makes the set of the place after the last row, as a row. Whether two single steps lead on from a whole item of it.
 fn make_row<L: Ledger>(
     flat: &Flat,
     heads: &Heads,
@@ -47,17 +51,17 @@ fn make_row<L: Ledger>(
     edges: &TokenEdges,
     work: &mut Work,
     steps: &mut Steps<L>,
-) -> Result<(), AllocError>
+) -> Result<bool, AllocError>
     requires heads { AreHeads flat.now heads.now }
     requires top { IsTop flat.now top }
     requires sets { AreReduced flat.now edges.now top rows.old.sets (length rows.old.sets) }
     requires rows { HasRows flat.now rows.old }
-    requires lists { AreLists flat.now rows.old.shared lists.old.numbers.entries }
+    requires lists { AreFound flat.now rows.old.shared lists.old }
     requires memo { IsMemo flat.now rows.old.sets memo.old }
     requires earleme { length rows.old.sets ≤ LAST_PLACE }
     requires begun { (e : HeldEdge) → Contains edges.now e → e.from < length rows.old.sets }
     requires forward { GoForward edges.now }
-    ensures lists { AreLists flat.now rows.new.shared lists.new.numbers.entries }
+    ensures lists { AreFound flat.now rows.new.shared lists.new }
     ensures flat { rows.new.flat ≡ flat.now }
     ensures ok { OnOk result (AddsRow flat.now edges.now top rows.old.sets rows.new.sets) }
     ensures memo { NotesMore flat.now rows.old.sets memo.old memo.new }
@@ -65,12 +69,15 @@ fn make_row<L: Ledger>(
     ensures counted { OnOk result (0 < length rows.old.sets →
         RisesWithinLinks flat.now edges.now top (length rows.old.sets)
         (steps.old + length memo.new) (steps.new + length memo.old)) }
+    ensures twice { IfOk result (λ twice.
+        IsTrue twice ↔ SomeStepsTwiceIn flat.now rows.new.sets (length rows.old.sets) 0) }
 {
     let earleme = rows.len() as u32;
-    make_kernel(flat, heads, top, rows, memo, edges, earleme, work, steps)?;
+    let twice = make_kernel(flat, heads, top, rows, memo, edges, earleme, work, steps)?;
     let kernel = work.set.as_slice();
     let begun = find_list(flat, heads, rows, lists, kernel, steps)?;
-    rows.push(kernel, begun)
+    rows.push(kernel, begun)?;
+    Ok(twice)
 }
 
 // The same. After an error the notes are as before.
@@ -84,17 +91,17 @@ fn add_row<L: Ledger>(
     edges: &TokenEdges,
     work: &mut Work,
     steps: &mut Steps<L>,
-) -> Result<(), AllocError>
+) -> Result<bool, AllocError>
     requires heads { AreHeads flat.now heads.now }
     requires top { IsTop flat.now top }
     requires sets { AreReduced flat.now edges.now top rows.old.sets (length rows.old.sets) }
     requires rows { HasRows flat.now rows.old }
-    requires lists { AreLists flat.now rows.old.shared lists.old.numbers.entries }
+    requires lists { AreFound flat.now rows.old.shared lists.old }
     requires memo { IsMemo flat.now rows.old.sets memo.old }
     requires earleme { length rows.old.sets ≤ LAST_PLACE }
     requires begun { (e : HeldEdge) → Contains edges.now e → e.from < length rows.old.sets }
     requires forward { GoForward edges.now }
-    ensures lists { AreLists flat.now rows.new.shared lists.new.numbers.entries }
+    ensures lists { AreFound flat.now rows.new.shared lists.new }
     ensures flat { rows.new.flat ≡ flat.now }
     ensures ok { OnOk result (AddsRow flat.now edges.now top rows.old.sets rows.new.sets) }
     ensures memo { IsMemo flat.now rows.old.sets memo.new }
@@ -102,10 +109,12 @@ fn add_row<L: Ledger>(
     ensures counted { OnOk result (0 < length rows.old.sets →
         RisesWithinLinks flat.now edges.now top (length rows.old.sets)
         (steps.old + length memo.new) (steps.new + length memo.old)) }
+    ensures twice { IfOk result (λ twice.
+        IsTrue twice ↔ SomeStepsTwiceIn flat.now rows.new.sets (length rows.old.sets) 0) }
 {
     let noted = memo.len();
     match make_row(flat, heads, top, rows, lists, memo, edges, work, steps) {
-        Ok(()) => Ok(()),
+        Ok(twice) => Ok(twice),
         Err(error) => {
             memo.keep_first(noted);
             Err(error)
@@ -132,16 +141,17 @@ fn add_first<L: Ledger>(
     requires top { IsTop flat.now top }
     requires rows { rows.old.sets ≡ [] }
     requires flat { rows.old.flat ≡ flat.now }
-    requires lists { AreLists flat.now rows.old.shared lists.old.numbers.entries }
+    requires lists { AreFound flat.now rows.old.shared lists.old }
     requires memo { memo.old ≡ [] }
     requires edges { edges.now ≡ [] }
-    ensures lists { AreLists flat.now rows.new.shared lists.new.numbers.entries }
+    ensures lists { AreFound flat.now rows.new.shared lists.new }
     ensures flat { rows.new.flat ≡ flat.now }
     ensures ok { OnOk result (AddsRow flat.now edges.now top [] rows.new.sets) }
     ensures memo { memo.new ≡ [] }
 {
     let mut steps = Steps::<L>::of_blank(blank);
-    add_row(flat, heads, top, rows, lists, memo, edges, work, &mut steps)
+    add_row(flat, heads, top, rows, lists, memo, edges, work, &mut steps)?;
+    Ok(())
 }
 
 // The row of the first place.
@@ -154,8 +164,8 @@ fn first_rows<'g>(
 ) -> Result<Rows<'g>, AllocError>
     requires heads { AreHeads flat.now heads.now }
     requires top { IsTop flat.now top }
-    requires lists { lists.old.numbers.entries ≡ [] }
-    ensures lists { IfOk result (λ rows. AreLists flat.now rows.shared lists.new.numbers.entries) }
+    requires lists { (lists.old.numbers.entries ≡ []) × (lists.old.met.lists ≡ []) × (lists.old.met.numbers.items ≡ []) }
+    ensures lists { IfOk result (λ rows. AreFound flat.now rows.shared lists.new) }
     ensures flat { IfOk result (λ rows. rows.flat ≡ flat.now) }
     ensures ok { IfOk result (λ rows. AddsRow flat.now [] top [] rows.sets) }
 {
@@ -209,6 +219,7 @@ pub struct Recce<'g> {
     lists: Lists,
     memo: Memo,
     expected: Expected,
+    hiding: Vec<bool>,
     work: Work,
 }
 
@@ -225,6 +236,7 @@ impl<'g> Drop for Recce<'g> {
             lists: _,
             memo: _,
             expected: _,
+            hiding: _,
             work: _,
         } = self;
     }
@@ -235,8 +247,9 @@ impl<'g> Model for Recce<'g> {
     ghost use Rattle.leo_items.specs.Memo.{pairs_of};
     ghost use Rattle.earley_sets.specs.Recognizer.{Recognizer, IsKept};
     ghost use Rattle.item_rows.specs.Heads.{AreHeads};
-    ghost use Rattle.earley_sets.specs.Begun.{AreLists};
+    ghost use Rattle.begun_lists.specs.Met.{AreFound};
     ghost use Rattle.expected_terminals.specs.Expected.{KnowsLast};
+    ghost use Rattle.earley_sets.specs.Hiding.{NotesTwice};
 
     ghost Value = { Recognizer };
 
@@ -255,12 +268,12 @@ impl<'g> Model for Recce<'g> {
       sets = r.rows.sets;
       noted = pairs_of r.memo;
     }) r.top r.memo × AreHeads r.flat.now r.heads ×
-        (r.rows.flat ≡ r.flat.now) × AreLists r.flat.now r.rows.shared r.lists.numbers.entries ×
-        KnowsLast r.flat.now r.rows.sets r.expected };
+        (r.rows.flat ≡ r.flat.now) × AreFound r.flat.now r.rows.shared r.lists ×
+        KnowsLast r.flat.now r.rows.sets r.expected × NotesTwice r.flat.now r.rows.sets r.hiding.items };
 }
 
-/// A number for the shape of the last set, and a place whose set waits for the same terminals. The number is a hint: it is small, and in
-/// practice one for each shape, so that a caller may index a table by it; no clause speaks of it.
+/// A number for what the last set waits for, and a place whose set waits for the same terminals. The number is a hint: it is that of the
+/// list of terminals, small and one for each list that is noted, so that a caller may index a table by it; no clause speaks of it.
 #[derive(Clone, Copy)]
 pub struct Alike {
     pub kind: u32,
@@ -323,6 +336,8 @@ impl<'g> Recce<'g> {
         expect_row(flat, &rows, 0, &mut expected);
         let edges = TokenEdges::new(alloc);
         let memo = Memo::new(alloc);
+        let mut hiding = Vec::new(alloc);
+        hiding.push(false)?;
         Ok(Recce {
             flat,
             heads,
@@ -333,6 +348,7 @@ impl<'g> Recce<'g> {
             lists,
             memo,
             expected,
+            hiding,
             work: Work::new(alloc),
         })
     }
@@ -380,7 +396,9 @@ impl<'g> Recce<'g> {
             (top_of self.old) (length self.old.sets) l) ×
             (steps.new + made self.old ≡ steps.old + length tried + made self.new)) }
     {
-        add_row(
+        let place = self.rows.len();
+        make_room(&mut self.hiding, place)?;
+        let twice = add_row(
             self.flat,
             &self.heads,
             self.top,
@@ -391,6 +409,7 @@ impl<'g> Recce<'g> {
             &mut self.work,
             steps,
         )?;
+        note_place(&mut self.hiding, place, twice);
         let last = self.rows.len() - 1;
         expect_row(self.flat, &self.rows, last, &mut self.expected);
         Ok(())
@@ -435,7 +454,7 @@ impl<'g> Recce<'g> {
     {
         let last = self.rows.len() - 1;
         let place = place_alike(&self.expected, last as u32);
-        let kind = self.rows.kind(last);
+        let kind = list_number(&self.expected);
         Alike { kind, place }
     }
 
@@ -519,12 +538,20 @@ impl<'g> Recce<'g> {
         ensures counted { IfOk result (λ items. steps.new ≡ steps.old + length items.items) }
         ensures err { OnErr result (steps.new ≡ steps.old) }
     {
-        if !some_steps_twice(self.flat, &self.rows, j, from) {
+        if !leads_twice(self.flat, &self.rows, &self.hiding, j, from) {
             return Ok(Vec::new(alloc));
         }
         let hidden = list_hidden(alloc, self.flat, &self.rows, j, from)?;
         count(&hidden, steps);
         Ok(hidden)
+    }
+
+    /// Whether two single steps lead on from a whole item that is kept in a set: where none do, it hides nothing. It is noted while the set is made.
+    pub fn hides(&self, j: u32) -> bool
+        requires { j ≤ earleme_of self.now }
+        ensures { IsTrue result ↔ SomeStepsTwice self.now j 0 }
+    {
+        note_at(&self.hiding, j)
     }
 
     /// Whether a set may have hidden items that begin at a place or after it: whether two single steps lead on from a whole item that is
@@ -535,7 +562,7 @@ impl<'g> Recce<'g> {
         ensures none { (¬ IsTrue result) → (item : Item) → from ≤ item.origin →
             ¬ IsHidden self.now.flat (edges_of self.now) (top_of self.now) j item }
     {
-        some_steps_twice(self.flat, &self.rows, j, from)
+        leads_twice(self.flat, &self.rows, &self.hiding, j, from)
     }
 
     /// The item of a set to which completions of a whole one lead in the end, if one step alone leads on from it.
@@ -583,6 +610,7 @@ impl<'g> Recce<'g> {
         self.rows.keep_first();
         self.memo.clear();
         self.edges.clear();
+        self.hiding.truncate(1);
         forget(&mut self.expected);
         expect_row(self.flat, &self.rows, 0, &mut self.expected);
     }
@@ -611,6 +639,104 @@ impl<'g> Recce<'g> {
             Err(EdgeRefusal::Duplicate) => Err(AlternativeRefusal::Duplicate),
             Err(EdgeRefusal::BadLength) => Err(AlternativeRefusal::BadLength),
             Err(EdgeRefusal::NoMemory) => Err(AlternativeRefusal::NoMemory),
+        }
+    }
+
+    /// The same without the flat grammar, so that it lends nothing from it.
+    pub fn unbind(self) -> UnboundRecce
+        ensures of { IsUnboundOf self.entry.flat result }
+        ensures is { recognizer_with self.entry.flat result ≡ self.entry }
+    {
+        let Recce {
+            flat: _,
+            heads,
+            start,
+            top,
+            edges,
+            rows,
+            lists,
+            memo,
+            expected,
+            hiding,
+            work,
+        } = self;
+        UnboundRecce {
+            heads,
+            start,
+            top,
+            edges,
+            rows: rows.unbind(),
+            lists,
+            memo,
+            expected,
+            hiding,
+            work,
+        }
+    }
+}
+
+/// A recognizer without the flat grammar that it reads by.
+pub struct UnboundRecce {
+    heads: Heads,
+    start: usize,
+    top: u32,
+    edges: TokenEdges,
+    rows: UnboundRows,
+    lists: Lists,
+    memo: Memo,
+    expected: Expected,
+    hiding: Vec<bool>,
+    work: Work,
+}
+
+// Written out, so that whoever lets it go does so by one call.
+impl Drop for UnboundRecce {
+    fn drop(self) {
+        let UnboundRecce {
+            heads: _,
+            start: _,
+            top: _,
+            edges: _,
+            rows: _,
+            lists: _,
+            memo: _,
+            expected: _,
+            hiding: _,
+            work: _,
+        } = self;
+    }
+}
+
+impl UnboundRecce {
+    /// The same with its flat grammar.
+    pub fn bind<'g>(self, flat: &'g Flat) -> Recce<'g>
+        requires { IsUnboundOf flat.now self }
+        ensures { result ≡ recognizer_with flat.now self }
+    {
+        let UnboundRecce {
+            heads,
+            start,
+            top,
+            edges,
+            rows,
+            lists,
+            memo,
+            expected,
+            hiding,
+            work,
+        } = self;
+        Recce {
+            flat,
+            heads,
+            start,
+            top,
+            edges,
+            rows: rows.bind(flat),
+            lists,
+            memo,
+            expected,
+            hiding,
+            work,
         }
     }
 }

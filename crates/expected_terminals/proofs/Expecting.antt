@@ -11,10 +11,11 @@ use Rattle.recognizer_model.specs.declared.Item.{Item}
 use Rattle.recognizer_model.specs.Flat.{FlatGrammar, part_of}
 use Rattle.jagged.specs.Rows.{row_at as list_at}
 use Rattle.item_rows.specs.Rows.{row_at, AreAlike}
+use Rattle.item_rows.specs.Kept.{WaitsForTerminal}
 use Rattle.expected_terminals.specs.Marks.{HasRoom, AreAtMost, IsAwaitedTerminal, AreTerminalsOf}
 use Rattle.expected_terminals.specs.declared.marks.Marks.{Marks}
 use Rattle.expected_terminals.proofs.Marking.{got_set, got_contains}
-use Rattle.expected_terminals.specs.Expected.{place_told, list_told, KeepsLists, IsNote, AreNotes, KnowsLast}
+use Rattle.expected_terminals.specs.Expected.{place_told, list_told, KeepsLists, IsNote, AreNotes, WaitsByList, WaitAlike, IsOfListed, KnowsLast}
 use Rattle.expected_terminals.specs.declared.expected.Note.{Note}
 use Rattle.expected_terminals.specs.declared.expected.Expected.{Expected}
 
@@ -40,13 +41,23 @@ alike_waits g a b same t (item, h, (x, w, s)) =
     let (other, there, r, d) = (same item.rule item.dot).0 (item, h, refl, refl) in
     (other, there, (x, (λ i. part_of g (r i) (d i)) ∙ w, s))
 
-pub terminals_alike : (g : FlatGrammar) (a b : List Item) (terminals : List ℕ) → AreAlike a b → AreTerminalsOf g a terminals → AreTerminalsOf g b terminals
-terminals_alike g a b terminals same are = record {
+pub wait_alike : (g : FlatGrammar) (a b : List Item) → AreAlike a b → WaitAlike g a b
+wait_alike g a b same t = (alike_waits g a b same t, alike_waits g b a (λ rule dot. ((same rule dot).1, (same rule dot).0)) t)
+
+-- so do rows that wait by the items of one list, wherever they begin
+list_waits : (g : FlatGrammar) (a b list : List Item) (i j : ℕ) → WaitsByList g a list i → WaitsByList g b list j → (t : ℕ) → IsAwaitedTerminal g a t → IsAwaitedTerminal g b t
+list_waits g a b list i j by also t (item, h, (x, w, s)) =
+    let (_, held) = (by item (x, w, (t, s))).0 h in
+    let other : Item = record item { origin = j } in
+    (other, (also other (x, w, (t, s))).1 (refl, held), (x, w, s))
+
+pub wait_by_list : (g : FlatGrammar) (a b list : List Item) (i j : ℕ) → WaitsByList g a list i → WaitsByList g b list j → WaitAlike g a b
+wait_by_list g a b list i j by also t = (list_waits g a b list i j by also t, list_waits g b a list j i also by t)
+
+pub terminals_same : (g : FlatGrammar) (a b : List Item) (terminals : List ℕ) → WaitAlike g a b → AreTerminalsOf g a terminals → AreTerminalsOf g b terminals
+terminals_same g a b terminals same are = record {
   order = are.order;
-  exact = λ t. (
-    λ h. alike_waits g a b same t ((are.exact t).0 h),
-    λ w. (are.exact t).1 (alike_waits g b a (λ rule dot. ((same rule dot).1, (same rule dot).0)) t w),
-  );
+  exact = λ t. (λ h. (same t).0 ((are.exact t).0 h), λ w. (are.exact t).1 ((same t).1 w));
 }
 
 -- the terminals of the last row, at its number
@@ -58,10 +69,15 @@ pub note_moved : (g : FlatGrammar) (sets others : List (List Item)) (lists more 
     IsNote g sets lists note → IsNote g others more note
 note_moved g sets others lists more note kept keeps is = record {
   place = (kept note.place is.place).0;
+  like = (kept note.like is.like).0;
   list = keeps.there note.list is.list;
-  are = subst (λ (l : List Item). AreTerminalsOf g l (list_at more note.list)) (sym (kept note.place is.place).1)
-      (subst (λ (l : List ℕ). AreTerminalsOf g (row_at sets note.place) l) (sym (keeps.same note.list is.list)) is.are);
+  are = moved note.place is.place is.are;
+  are_like = moved note.like is.like is.are_like;
 }
+  where
+    moved : (j : ℕ) → j < length sets → AreTerminalsOf g (row_at sets j) (list_at lists note.list) → AreTerminalsOf g (row_at others j) (list_at more note.list)
+    moved j lt are =
+        subst (λ (l : List Item). AreTerminalsOf g l (list_at more note.list)) (sym (kept j lt).1) (subst (λ (l : List ℕ). AreTerminalsOf g (row_at sets j) l) (sym (keeps.same note.list is.list)) are)
 
 pub same_lists : (lists : List (List ℕ)) → KeepsLists lists lists
 same_lists lists = record { there = λ k lt. lt; same = λ k lt. refl }
@@ -85,22 +101,45 @@ notes_still g old new row lists notes e are note h =
 pub no_notes : (g : FlatGrammar) (sets : List (List Item)) (lists : List (List ℕ)) (notes : List (Option Note)) → notes ≡ [] → AreNotes g sets lists notes
 no_notes g sets lists notes e = subst (λ (l : List (Option Note)). AreNotes g sets lists l) (sym e) (λ note (k, lt, s). absurd (omega arith))
 
--- a note of the last set
-pub note_new : (g : FlatGrammar) (sets : List (List Item)) (lists : List (List ℕ)) (note : Note) (j : ℕ) (listed : List ℕ) → length sets ≡ j + 1 → AreTerminalsOf g (row_at sets j) listed →
-    (note.place ≡ j) × (note.list < length lists) × (list_at lists note.list ≡ listed) → IsNote g sets lists note
-note_new g sets lists note j listed long are (p, l, e) = record {
-  place = omega arith;
-  list = l;
-  are = subst (λ n. AreTerminalsOf g (row_at sets n) (list_at lists note.list)) (sym p) (subst (λ (z : List ℕ). AreTerminalsOf g (row_at sets j) z) (sym e) are);
-}
-
+-- what holds of a note that there is
 pub of_some : (told : Option Note) (P : Note → Type 0) (note : Note) → IfSome told P → told ≡ Some note → P note
 of_some told P note h e = subst (λ (o : Option Note). IfSome o P) e h
 
-pub last_told : (g : FlatGrammar) (row : List Item) (lists : List (List ℕ)) (j : ℕ) (listed now : List ℕ) (told : Option Note) → now ≡ listed → IfSome told (λ note. (note.place ≡ j) × (note.list < length lists) × (list_at lists note.list ≡ listed)) →
-    AreTerminalsOf g row listed → AreTerminalsOf g row (list_told lists now told)
-last_told g row lists j listed now None e h are = subst (λ (z : List ℕ). AreTerminalsOf g row z) (sym e) are
-last_told g row lists j listed now (Some note) e (p, l, s) are = subst (λ (z : List ℕ). AreTerminalsOf g row z) (sym s) are
+pub each_some : (told : Option Note) (P Q : Note → Type 0) → ((note : Note) → P note → Q note) → IfSome told P → IfSome told Q
+each_some None P Q to h = tt
+each_some (Some note) P Q to h = to note h
+
+pub right_told : (g : FlatGrammar) (sets : List (List Item)) (lists : List (List ℕ)) (notes seen : List (Option Note)) (told : Option Note) → seen ≡ notes → AreNotes g sets lists notes → IfSome told (λ note. Contains seen (Some note)) →
+    IfSome told (IsNote g sets lists)
+right_told g sets lists notes seen told same are h = each_some told (λ note. Contains seen (Some note)) (IsNote g sets lists) (λ note in_seen. are note (subst (λ (l : List (Option Note)). Contains l (Some note)) same in_seen)) h
+
+-- a note of the last set
+module _ (g : FlatGrammar) (sets : List (List Item)) (old lists : List (List ℕ)) (told : Option Note) (j : ℕ) (listed : List ℕ) (long : length sets ≡ j + 1) (right : IfSome told (IsNote g sets old))
+    (are : AreTerminalsOf g (row_at sets j) listed) where
+  abbrev IsPlace : Note → Type 0
+  IsPlace note = (note.place ≡ j) ⊎ ((other : Note) × (told ≡ Some other) × (list_at old other.list ≡ listed) × (note.place ≡ other.place))
+
+  there : (note : Note) → IsPlace note → note.place < length sets
+  there note (inl e) = omega arith
+  there note (inr (other, is_told, same, e)) = let h = (of_some told (IsNote g sets old) other right is_told).place in omega arith
+
+  waits : (note : Note) → IsPlace note → AreTerminalsOf g (row_at sets note.place) listed
+  waits note (inl e) = subst (λ n. AreTerminalsOf g (row_at sets n) listed) (sym e) are
+  waits note (inr (other, is_told, same, e)) =
+      subst (λ n. AreTerminalsOf g (row_at sets n) listed) (sym e) (subst (λ (z : List ℕ). AreTerminalsOf g (row_at sets other.place) z) same (of_some told (IsNote g sets old) other right is_told).are)
+
+  pub note_new : (note : Note) → IsOfListed old lists listed told j note → IsNote g sets lists note
+  note_new note is = record {
+    place = there note is.place;
+    like = (let l = is.like in omega arith);
+    list = is.list;
+    are = subst (λ (z : List ℕ). AreTerminalsOf g (row_at sets note.place) z) (sym is.same) (waits note is.place);
+    are_like = subst (λ (z : List ℕ). AreTerminalsOf g (row_at sets note.like) z) (sym is.same) (subst (λ n. AreTerminalsOf g (row_at sets n) listed) (sym is.like) are);
+  }
+
+  pub last_told : (row : List Item) (now : List ℕ) (o : Option Note) → now ≡ listed → IfSome o (IsOfListed old lists listed told j) → AreTerminalsOf g row listed → AreTerminalsOf g row (list_told lists now o)
+  last_told row now None e h w = subst (λ (z : List ℕ). AreTerminalsOf g row z) (sym e) w
+  last_told row now (Some note) e h w = subst (λ (z : List ℕ). AreTerminalsOf g row z) (sym h.same) w
 
 -- what is read of the last set
 module _ (g : FlatGrammar) (sets : List (List Item)) (expected : Expected) (known : KnowsLast g sets expected) (some : 0 < length sets) where

@@ -5,5 +5,6 @@ mod expected;
 mod marks;
 
 pub use expected::{
-    Expected, copy_of, expect_row, forget, has_terminal, new_expected, place_alike, terminals,
+    Expected, copy_of, expect_row, forget, has_terminal, list_number, new_expected, place_alike,
+    terminals,
 };

@@ -105,6 +105,9 @@ fn list_chain(
         (Contains edges.old.items e ⊎ (Contains (all_held links.now) e × (e.to ≡ place)))) }
     ensures once { OnOk result (AllPairs (λ d e. d ≢ e) edges.new.items) }
 {
+    if links.is_empty() {
+        return Ok(());
+    }
     let mut next = newest.get(&place).copied();
     while let Some(number) = next {
         let link = link_at(links, number);

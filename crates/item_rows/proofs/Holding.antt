@@ -5,29 +5,20 @@ use Rattle.std.proofs.lemmas.Bool.{cases_lt}
 use Rattle.std.proofs.lemmas.List.{get_or-map, map-append}
 use Rattle.std.proofs.Math.ListN.{get_or-append}
 use Rattle.std.proofs.Math.Seq.{get_or-append_seam}
-use Rattle.std.proofs.lemmas.List.Elements.{Contains-push_cases}
+use Rattle.std.proofs.lemmas.List.Elements.{Contains-push_cases, Contains-append_right, Contains-append_cases}
 use Rattle.std.proofs.lemmas.List.Sums.{sum_by-cons}
 use Rattle.recognizer_model.specs.declared.Item.{Item}
 use Rattle.recognizer_model.specs.Flat.{FlatGrammar}
 use Rattle.recognizer_model.specs.Counts.{IsListOf}
-use Rattle.item_rows.specs.Rows.{ItemRows, row_at, shared_at, with_row, IsBegunAt, AreAlike}
+use Rattle.item_rows.specs.Rows.{ItemRows, row_at, shared_at, kind_at, with_row, IsBegunAt, AreAlike, AreOfKinds}
 use Rattle.jagged.specs.Rows.{row_at as list_at}
 use Rattle.item_rows.specs.Dotted.{dotted_at, unpacked, begun_at, DifferInDots, IsPackedRow, AreDotted, row_items, IsRowOfParts}
-use Rattle.item_rows.specs.Held.{shared_by, rows_from, lists_from, AreHeld}
-use Rattle.kernels.specs.Shapes.{Kernel, no_kernel, kernel_at}
+use Rattle.item_rows.specs.Held.{shared_by, rows_from, lists_from, kinds_of, AreHeld}
+use Rattle.kernels.specs.Shapes.{Kernel, no_kernel, kernel_at, AreOfShapes}
 use Rattle.kernels.specs.Slots.{dotted_of}
 use Rattle.kernels.proofs.Numbers.{map_length, map_has, index_any}
+use Rattle.shared_lists.proofs.Counting.{old_at, new_at, one_longer}
 use Rattle.item_rows.proofs.Joined.{once_begun, begun_told, join_lists, rows_alike}
-
-module _ {A : Type 0} (xs : List A) (x d : A) where
-  old_at : (k : ℕ) → k < length xs → get_or (xs ++ x ∷ []) k d ≡ get_or xs k d
-  old_at k lt = get_or-append xs (x ∷ []) d k lt
-
-  new_at : get_or (xs ++ x ∷ []) (length xs) d ≡ x
-  new_at = get_or-append_seam xs x [] d
-
-one_longer : {A : Type 0} (xs : List A) (x : A) → length (xs ++ x ∷ []) ≡ length xs + 1
-one_longer xs x = length-append xs (x ∷ [])
 
 sum_cons : {A : Type 0} (x : List A) (xs : List (List A)) → sum (map length (x ∷ xs)) ≡ length x + sum (map length xs)
 sum_cons x xs = sum_by-cons (λ (n : ℕ). n) (length x) (map length xs)
@@ -84,14 +75,14 @@ module _ (rules : List Item) (differ : DifferInDots rules) (zero : (k : ℕ) →
       join_lists (Contains items) (IsBegunAt shared earleme) (map (unpacked rules) packed) (map (begun_at rules earleme) list) same
       (record { once = once_begun rules differ earleme list dotted; exact = told }) apart
 
-abbrev pub rows_over : FlatGrammar → (sets shared : List (List Item)) → ItemRows
-rows_over g sets shared = record { flat = g; sets = sets; shared = shared }
+abbrev pub rows_over : FlatGrammar → (sets shared : List (List Item)) → (kinds : List ℕ) → ItemRows
+rows_over g sets shared kinds = record { flat = g; sets = sets; shared = shared; kinds = kinds }
 
 abbrev pub seen : FlatGrammar → List Item → (lists : List (List ℕ)) → (kernels : List Kernel) → ItemRows
-seen g rules lists kernels = rows_over g (rows_from rules lists 0 kernels) (lists_from rules lists)
+seen g rules lists kernels = rows_over g (rows_from rules lists 0 kernels) (lists_from rules lists) (kinds_of kernels)
 
-pub seen_as : {g h : FlatGrammar} {xs ys ss ts : List (List Item)} → g ≡ h → xs ≡ ys → ss ≡ ts → rows_over g xs ss ≡ rows_over h ys ts
-seen_as e f s = λ i. record { flat = e i; sets = f i; shared = s i }
+pub seen_as : {g h : FlatGrammar} {xs ys ss ts : List (List Item)} {ks ls : List ℕ} → g ≡ h → xs ≡ ys → ss ≡ ts → ks ≡ ls → rows_over g xs ss ks ≡ rows_over h ys ts ls
+seen_as e f s k = λ i. record { flat = e i; sets = f i; shared = s i; kinds = k i }
 
 module _ (g : FlatGrammar) (rules : List Item) (lists : List (List ℕ)) (kernels : List Kernel) (r : ItemRows) (is : seen g rules lists kernels ≡ r) where
   pub same_flat : g ≡ r.flat
@@ -102,6 +93,9 @@ module _ (g : FlatGrammar) (rules : List Item) (lists : List (List ℕ)) (kernel
 
   same_shared : lists_from rules lists ≡ r.shared
   same_shared = ap (λ (z : ItemRows). z.shared) is
+
+  same_kinds : kinds_of kernels ≡ r.kinds
+  same_kinds = ap (λ (z : ItemRows). z.kinds) is
 
   pub sets_length : length r.sets ≡ length kernels
   sets_length = sym (ap length same_sets) ∙ from_length rules lists 0 kernels
@@ -123,12 +117,23 @@ module _ (g : FlatGrammar) (rules : List Item) (lists : List (List ℕ)) (kernel
   pub list_seen : (j : ℕ) → j < length r.shared → map (dotted_at rules) (list_at lists j) ≡ shared_at r.shared j
   list_seen j lt = sym (get_or-map (map (dotted_at rules)) lists j [] [] (in_lists j lt)) ∙ ap (λ s. shared_at s j) same_shared
 
+  pub kind_seen : (j : ℕ) → j < length r.sets → (kernel_at kernels j).kind ≡ kind_at r.kinds j
+  kind_seen j lt = sym (get_or-map (λ (k : Kernel). k.kind) kernels j no_kernel 0 (in_kernels j lt)) ∙ ap (λ l. kind_at l j) same_kinds
+
   pub alike_seen : (i j : ℕ) → i < length r.sets → j < length r.sets → (kernel_at kernels i).begun ≡ (kernel_at kernels j).begun → dotted_of (kernel_at kernels i).packed ≡ dotted_of (kernel_at kernels j).packed →
       AreAlike (row_at r.sets i) (row_at r.sets j)
   alike_seen i j li lj begun dotted =
       subst (λ (l : List Item). AreAlike l (row_at r.sets j)) (row_seen i li)
       (subst (λ (l : List Item). AreAlike (row_of rules lists i (kernel_at kernels i)) l) (row_seen j lj)
       (rows_alike rules i j (kernel_at kernels i).packed (kernel_at kernels j).packed (shared_by lists (kernel_at kernels i)) (shared_by lists (kernel_at kernels j)) dotted (ap (list_at lists) begun)))
+
+  pub kinds_known : AreOfShapes kernels → AreOfKinds r
+  kinds_known known = record {
+    all = (let k = ap (λ (l : List ℕ). length l) same_kinds in let m = map_length (λ (k : Kernel). k.kind) kernels in let n = sets_length in omega arith);
+    alike = λ i j li lj e. (
+        let (begun, dotted) = known i j (in_kernels i li) (in_kernels j lj) (kind_seen i li ∙ (e ∙ sym (kind_seen j lj))) in
+        alike_seen i j li lj begun dotted);
+  }
 
   module _ (count : ℕ) (held : AreHeld rules lists kernels count) where
     pub fits : (j : ℕ) → j < length r.sets → j < 2 ^ 32
@@ -149,6 +154,22 @@ module _ (g : FlatGrammar) (rules : List Item) (lists : List (List ℕ)) (kernel
         pub items_here : row_items rules j packed list ≡ row_at r.sets j
         items_here = (λ i. row_items rules j (p i) (list_here i)) ∙ row_seen j lt
 
+        -- no item of the row's own is of a kind
+        module _ (differ : DifferInDots rules) (zero : (k : ℕ) → k < length rules → (dotted_at rules k).origin ≡ 0) where
+          pub list_alone : (Kind : Item → Type 0) → ((item : Item) → Contains (map (unpacked rules) packed) item → ¬ Kind item) → (item : Item) → Kind item → Contains (row_at r.sets j) item ↔ IsBegunAt (shared_at r.shared number) j item
+          list_alone Kind none item kind = subst (λ (l : List Item). Contains l item ↔ IsBegunAt (shared_at r.shared number) j item) items_here (there, back)
+            where
+              as_begun : Contains (map (begun_at rules j) list) item ↔ IsBegunAt (shared_at r.shared number) j item
+              as_begun =
+                  subst (λ (l : List Item). Contains (map (begun_at rules j) list) item ↔ IsBegunAt l j item) (ap (map (dotted_at rules)) l ∙ list_seen number (let s = shared_length in let t = list_there in omega arith))
+                  (begun_told rules differ j zero list parts_here.second item)
+
+              there : Contains (row_items rules j packed list) item → IsBegunAt (shared_at r.shared number) j item
+              there h = elim (Contains-append_cases (map (unpacked rules) packed) (map (begun_at rules j) list) item h) [ inl a ↦ absurd (none item a kind) | inr b ↦ as_begun.0 b ]
+
+              back : IsBegunAt (shared_at r.shared number) j item → Contains (row_items rules j packed list) item
+              back h = Contains-append_right (map (unpacked rules) packed) (map (begun_at rules j) list) item (as_begun.1 h)
+
     -- one list more
     module _ (list : List ℕ) (dotted : AreDotted (length rules) list) where
       shared_still : (j : ℕ) → j < length kernels → shared_by (lists ++ list ∷ []) (kernel_at kernels j) ≡ shared_by lists (kernel_at kernels j)
@@ -168,12 +189,12 @@ module _ (g : FlatGrammar) (rules : List Item) (lists : List (List ℕ)) (kernel
 
       pub seen_shared : seen g rules (lists ++ list ∷ []) kernels ≡ record r { shared = r.shared ++ map (dotted_at rules) list ∷ [] }
       seen_shared =
-          seen_as same_flat (rows_still ∙ same_sets) (map-append (map (dotted_at rules)) lists (list ∷ []) ∙ ap (λ s. s ++ map (dotted_at rules) list ∷ []) same_shared)
+          seen_as same_flat (rows_still ∙ same_sets) (map-append (map (dotted_at rules)) lists (list ∷ []) ∙ ap (λ s. s ++ map (dotted_at rules) list ∷ []) same_shared) same_kinds
 
     -- one row more
-    module _ (packed : List ℕ) (number : ℕ) (below : number < length lists) (room : length kernels < 2 ^ 32) (row : IsRowOfParts rules (length kernels) packed (list_at lists number)) where
+    module _ (packed : List ℕ) (kind number : ℕ) (below : number < length lists) (room : length kernels < 2 ^ 32) (row : IsRowOfParts rules (length kernels) packed (list_at lists number)) where
       abbrev last : Kernel
-      last = record { begun = number; packed = packed }
+      last = record { begun = number; packed = packed; kind = kind }
 
       rows_new : rows_from rules lists 0 (kernels ++ last ∷ []) ≡ rows_from rules lists 0 kernels ++ row_items rules (length kernels) packed (list_at lists number) ∷ []
       rows_new = from_more rules lists 0 kernels last ∙ ap (λ q. rows_from rules lists 0 kernels ++ row_of rules lists q last ∷ []) (let e : 0 + length kernels ≡ length kernels = omega arith in e)
@@ -201,8 +222,9 @@ module _ (g : FlatGrammar) (rules : List Item) (lists : List (List ℕ)) (kernel
             ∙ (sym (sum_more (rows_from rules lists 0 kernels) (row_items rules (length kernels) packed (list_at lists number))) ∙ ap (λ (s : List (List Item)). sum (map length s)) (sym rows_new)));
       }
 
-      pub seen_more : seen g rules lists (kernels ++ last ∷ []) ≡ with_row r (row_items rules (length kernels) packed (list_at lists number))
+      pub seen_more : seen g rules lists (kernels ++ last ∷ []) ≡ with_row r (row_items rules (length kernels) packed (list_at lists number)) kind
       seen_more = seen_as same_flat (rows_new ∙ ap (λ (s : List (List Item)). s ++ row_items rules (length kernels) packed (list_at lists number) ∷ []) same_sets) same_shared
+          (map-append (λ (k : Kernel). k.kind) kernels (last ∷ []) ∙ ap (λ (l : List ℕ). l ++ kind ∷ []) same_kinds)
 
     -- the row that is put last
     module _ (differ : DifferInDots rules) (zero : (k : ℕ) → k < length rules → (dotted_at rules k).origin ≡ 0) (items : List Item) (packed : List ℕ) (is_row : IsPackedRow (length rules) packed)
@@ -253,5 +275,5 @@ module _ (g : FlatGrammar) (rules : List Item) (lists : List (List ℕ)) (kernel
             omega arith);
       }
 
-      pub seen_first : seen g rules lists (take 1 kernels) ≡ record r { sets = row_at r.sets 0 ∷ [] }
-      seen_first = seen_as same_flat rows_first same_shared
+      pub seen_first : seen g rules lists (take 1 kernels) ≡ record r { sets = row_at r.sets 0 ∷ []; kinds = kind_at r.kinds 0 ∷ [] }
+      seen_first = seen_as same_flat rows_first same_shared (ap kinds_of (first_kernel kernels there) ∙ ap (λ (k : ℕ). k ∷ []) (kind_seen 0 some))

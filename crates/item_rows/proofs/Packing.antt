@@ -30,48 +30,6 @@ pack_more rules items packed new k n d before is same lt =
 
 -- numbers that rise
 module _ (row : List ℕ) (rises : Rises row) where
-  pub below_parted : (bound : ℕ) → IsPartitionedBy (λ n. nat_lt n bound) row
-  below_parted bound i j d le lt e =
-      let h = ltb-true _ _ e in
-      let o = in_order row rises i j le lt in
-      let a = index_any row i d 0 (omega arith) in
-      let b = index_any row j d 0 lt in
-      lt-ltb _ _ (omega arith)
-
-  pub part_rises : (start end : ℕ) → start ≤ end → end ≤ length row → Rises (take (end - start) (drop start row))
-  part_rises start end le bound i j d lt below =
-      let l = part_length row start end le bound in
-      let r = rises (start + i) (start + j) d (omega arith) (omega arith) in
-      let a = get_or-take (end - start) (drop start row) i d (omega arith) ∙ get_or-drop start row i d in
-      let b = get_or-take (end - start) (drop start row) j d (omega arith) ∙ get_or-drop start row j d in
-      omega arith
-
-  -- a part of them, by two bounds
-  module _ (low high start end : ℕ) (le : low ≤ high) (bs : start ≤ length row) (be : end ≤ length row)
-      (b1 : (k : ℕ) → k < start → slice_index row k < low) (a1 : (k : ℕ) → start ≤ k → k < length row → low ≤ slice_index row k)
-      (b2 : (k : ℕ) → k < end → slice_index row k < high) (a2 : (k : ℕ) → end ≤ k → k < length row → high ≤ slice_index row k) where
-    pub part_order : start ≤ end
-    part_order = elim (cases_lt end start) [ inr l ↦ l | inl l ↦ let p = b1 end l in let q = a2 end (omega arith) (omega arith) in absurd (omega arith) ]
-
-    pub part_exact : (n : ℕ) → Contains (take (end - start) (drop start row)) n ↔ (Contains row n × (low ≤ n) × (n < high))
-    part_exact n = (there, back)
-      where
-        there : Contains (take (end - start) (drop start row)) n → Contains row n × (low ≤ n) × (n < high)
-        there h =
-            let (k, from, to, is) = part_from row start end part_order be n h in
-            let (lt, same) = get_index row k 0 n is in
-            let p = a1 k from lt in
-            let q = b2 k to in
-            (at_found row k n is, omega arith, omega arith)
-
-        back : Contains row n × (low ≤ n) × (n < high) → Contains (take (end - start) (drop start row)) n
-        back (c, from, to) =
-            let (k, is) = found_at row n c in
-            let (lt, same) = get_index row k 0 n is in
-            part_to row start end part_order be k n
-            (elim (cases_lt k start) [ inr l ↦ l | inl l ↦ let p = b1 k l in absurd (omega arith) ])
-            (elim (cases_lt k end) [ inl l ↦ l | inr l ↦ let p = a2 k l lt in absurd (omega arith) ]) is
-
   pub search_tells : (n : ℕ) (r : Result ℕ ℕ) → IsBinarySearchResult (λ y. nat_cmp y n) row r → IsTrue (is_ok r) ↔ Contains row n
   search_tells n r h = go r (searched row n r h (in_order row rises))
     where

@@ -17,6 +17,9 @@ rows_from rules lists earleme (kernel ∷ kernels) = row_items rules earleme ker
 abbrev pub lists_from : List Item → List (List ℕ) → List (List Item)
 lists_from rules lists = map (map (dotted_at rules)) lists
 
+abbrev pub kinds_of : List Kernel → List ℕ
+kinds_of kernels = map (λ (k : Kernel). k.kind) kernels
+
 pub record AreHeld (rules : List Item) (lists : List (List ℕ)) (kernels : List Kernel) (count : ℕ) : Type 0 where
   pub few : length kernels ≤ 2 ^ 32
   pub known : (j : ℕ) → j < length kernels → (kernel_at kernels j).begun < length lists

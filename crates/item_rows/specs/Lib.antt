@@ -4,3 +4,4 @@ pub mod Kept
 pub mod Dotted
 pub mod Held
 pub mod Heads
+pub mod Unbound

@@ -4,6 +4,7 @@ ghost use Rattle.std.specs.List.{AllPairs};
 ghost use Rattle.recognizer_model.specs.declared.Item.{Item as TheItem};
 ghost use Rattle.recognizer_model.specs.Flat.{IsRule, rhs_of};
 ghost use Rattle.item_rows.specs.Order.{IsInOrder};
+ghost use Rattle.item_rows.specs.Unbound.{AreDotsOf};
 ghost use Rattle.item_rows.specs.Kept.{IsItem, StandsForTerminal};
 ghost use Rattle.kernels.specs.Slots.{placed};
 ghost use Rattle.item_rows.specs.Dotted.{AddsDots, AreListed, AreNumbers, IsSpan, IsWholeSpan, IsTerminalSpan, AreSpans, IsTable, IsPacked, DifferInDots, dotted_at, begun_at, unpacked};
@@ -334,6 +335,19 @@ impl<'g> DottedRules<'g> {
         &self.rules
     }
 
+    /// How many bounds there are for the numbers of dotted rules, those of spans among them.
+    pub(crate) fn bounds(&self) -> u32
+        ensures few { length self.now.rules < 4294967295 → result ≡ length self.now.rules + 1 }
+        ensures many { 4294967295 ≤ length self.now.rules → result ≡ 0 }
+    {
+        let count = self.rules.len();
+        if count < 4_294_967_295 {
+            count as u32 + 1
+        } else {
+            0
+        }
+    }
+
     /// The number that an item is packed into, if it is one of the grammar.
     pub fn pack(&self, item: Item) -> Option<u64>
         ensures some { IfSome result (λ n. IsPacked self.now.rules n item) }
@@ -367,5 +381,66 @@ impl<'g> DottedRules<'g> {
         ensures { IsTerminalSpan self.now.flat self.now.rules result }
     {
         self.scanned
+    }
+
+    /// The same without the grammar.
+    pub fn unbind(self) -> UnboundDots
+        ensures table { AreDotsOf self.entry.flat result }
+        ensures rules { result.rules.items ≡ self.entry.rules }
+    {
+        let DottedRules {
+            flat: _,
+            rules,
+            firsts,
+            numbers,
+            spans,
+            whole,
+            scanned,
+        } = self;
+        UnboundDots {
+            rules,
+            firsts,
+            numbers,
+            spans,
+            whole,
+            scanned,
+        }
+    }
+}
+
+/// The dotted rules of a flat grammar, without the grammar.
+#[derive(Drop)]
+pub struct UnboundDots {
+    rules: Vec<Item>,
+    firsts: Vec<u32>,
+    numbers: Vec<u32>,
+    spans: Vec<Span>,
+    whole: Span,
+    scanned: Span,
+}
+
+impl UnboundDots {
+    /// The same with their grammar.
+    pub fn bind<'g>(self, flat: &'g Flat) -> DottedRules<'g>
+        requires { AreDotsOf flat.now self }
+        ensures { result ≡ record { flat = flat.now; rules = self.rules.items } }
+    {
+        let UnboundDots {
+            rules,
+            firsts,
+            numbers,
+            spans,
+            whole,
+            scanned,
+        } = self;
+        DottedRules {
+            flat,
+            rules,
+            firsts,
+            numbers,
+            spans,
+            whole,
+            scanned,
+        }
     }
 }

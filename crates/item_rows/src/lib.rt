@@ -10,4 +10,4 @@ mod rows;
 
 pub use heads::{Heads, Rules, list_heads, rules_of, symbol_of};
 pub use packed::Row;
-pub use rows::Rows;
+pub use rows::{Rows, UnboundRows};

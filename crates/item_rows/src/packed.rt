@@ -6,11 +6,13 @@ ghost use Rattle.recognizer_model.specs.Counts.{IsListOf};
 ghost use Rattle.recognizer_model.specs.Items.{after, IsWhole};
 ghost use Rattle.item_rows.specs.Kept.{AreItems, IsAwaited, WaitsForTerminal};
 ghost use Rattle.kernels.specs.Slots.{Rises, placed_all, AreSlotted};
+ghost use Rattle.jagged.specs.Rows.{row_at as list_at};
 ghost use Rattle.item_rows.specs.Dotted.{unpacked, IsPackedRow, AreDotted, IsRowOfParts, AreWithin, row_items};
 
 use crate::dotted::{DottedRules, Span, begin, unpack};
 use kernels::{KernelRef, ORIGINS, slot_of};
 use recognizer_model::Item;
+use shared_lists::SharedLists;
 use std::alloc::{AllocError, AllocFailed};
 use std::marker::Model;
 
@@ -182,54 +184,11 @@ fn count_below_from(packed: &[u64], start: usize, bound: u64) -> usize
             return place;
         }
     }
-    count_below(packed, bound)
-}
-
-// How many dotted rules are before a bound, of a few.
-fn count_few_before(begun: &[u32], bound: u32) -> usize
-    requires { Rises begun.now }
-    ensures bound { result ≤ length begun.now }
-    ensures below { (k : ℕ) → k < result → slice_index begun.now k < bound }
-    ensures above { (k : ℕ) → result ≤ k → k < length begun.now → bound ≤ slice_index begun.now k }
-{
-    for place in 0..begun.len() {
-        if begun[place] >= bound {
-            return place;
-        }
-    }
-    begun.len()
-}
-
-// How many dotted rules are before a bound.
-fn count_before(begun: &[u32], bound: u32) -> usize
-    requires { Rises begun.now }
-    ensures bound { result ≤ length begun.now }
-    ensures below { (k : ℕ) → k < result → slice_index begun.now k < bound }
-    ensures above { (k : ℕ) → result ≤ k → k < length begun.now → bound ≤ slice_index begun.now k }
-{
-    if begun.len() <= FEW {
-        count_few_before(begun, bound)
+    if near == packed.len() {
+        near
     } else {
-        begun.partition_point(|k| *k < bound)
+        count_below(packed, bound)
     }
-}
-
-// How many dotted rules are before a bound, where so many are.
-fn count_before_from(begun: &[u32], start: usize, bound: u32) -> usize
-    requires row { Rises begun.now }
-    requires start { start ≤ length begun.now }
-    requires below { (k : ℕ) → k < start → slice_index begun.now k < bound }
-    ensures bound { result ≤ length begun.now }
-    ensures below { (k : ℕ) → k < result → slice_index begun.now k < bound }
-    ensures above { (k : ℕ) → result ≤ k → k < length begun.now → bound ≤ slice_index begun.now k }
-{
-    let near = start.saturating_add(FEW).min(begun.len());
-    for place in start..near {
-        if begun[place] >= bound {
-            return place;
-        }
-    }
-    count_before(begun, bound)
 }
 
 // The packed items whose dotted rules are of a span.
@@ -246,19 +205,6 @@ fn within_span(packed: &[u64], span: Span) -> &[u64]
     let start = count_below(packed, low);
     let end = count_below_from(packed, start, high);
     between(packed, start, end)
-}
-
-// The dotted rules of a span.
-fn dotted_within(begun: &[u32], span: Span) -> &[u32]
-    requires row { Rises begun.now }
-    requires order { span.start ≤ span.end }
-    ensures rises { Rises result.now }
-    ensures exact { (k : ℕ) →
-        Contains result.now k ↔ (Contains begun.now k × (span.start ≤ k) × (k < span.end)) }
-{
-    let start = count_before(begun, span.start);
-    let end = count_before_from(begun, start, span.end);
-    between(begun, start, end)
 }
 
 fn between<T>(items: &[T], start: usize, end: usize) -> &[T]
@@ -280,24 +226,25 @@ fn first_of(number: u32) -> u64
 fn narrowed<'r>(
     dotted: &'r DottedRules<'_>,
     kernel: KernelRef<'r>,
-    begun: &'r [u32],
+    lists: &'r SharedLists,
     earleme: u32,
     span: Span,
 ) -> Row<'r>
     requires slotted { AreSlotted kernel.origins.now kernel.slotted.now }
+    requires there { kernel.begun < length lists.now }
     requires row { IsRowOfParts dotted.now.rules earleme
-        (placed_all kernel.origins.now kernel.slotted.now) begun.now }
+        (placed_all kernel.origins.now kernel.slotted.now) (list_at lists.now kernel.begun) }
     requires order { span.start ≤ span.end }
     ensures { (own others : List ℕ) ×
-        AreWithin (placed_all kernel.entry.origins.now kernel.entry.slotted.now) begun.now span own
-        others ×
+        AreWithin (placed_all kernel.entry.origins.now kernel.entry.slotted.now)
+        (list_at lists.now kernel.entry.begun) span own others ×
         (result ≡ row_items dotted.now.rules earleme own others) }
 {
     let own = KernelRef {
         slotted: within_span(kernel.slotted, span),
         ..kernel
     };
-    let others = dotted_within(begun, span);
+    let others = lists.part(kernel.begun as usize, span.start, span.end);
     row_of(dotted.rules(), own, others, earleme)
 }
 
@@ -305,61 +252,79 @@ fn narrowed<'r>(
 pub fn waiting<'r>(
     dotted: &'r DottedRules<'_>,
     kernel: KernelRef<'r>,
-    begun: &'r [u32],
+    lists: &'r SharedLists,
     earleme: u32,
     symbol: u32,
 ) -> Row<'r>
     requires slotted { AreSlotted kernel.origins.now kernel.slotted.now }
+    requires there { kernel.begun < length lists.now }
     requires row { IsRowOfParts dotted.now.rules earleme
-        (placed_all kernel.origins.now kernel.slotted.now) begun.now }
+        (placed_all kernel.origins.now kernel.slotted.now) (list_at lists.now kernel.begun) }
     ensures { IsListOf
         (λ item. Contains (row_items dotted.now.rules earleme
-        (placed_all kernel.entry.origins.now kernel.entry.slotted.now) begun.now) item ×
+        (placed_all kernel.entry.origins.now kernel.entry.slotted.now)
+        (list_at lists.now kernel.entry.begun)) item ×
         (after dotted.now.flat item ≡ Some symbol))
         result }
 {
     dotted.known();
-    narrowed(dotted, kernel, begun, earleme, dotted.span(symbol))
+    narrowed(dotted, kernel, lists, earleme, dotted.span(symbol))
 }
 
 /// The items of a row with the dot at the end.
 pub fn whole<'r>(
     dotted: &'r DottedRules<'_>,
     kernel: KernelRef<'r>,
-    begun: &'r [u32],
+    lists: &'r SharedLists,
     earleme: u32,
 ) -> Row<'r>
     requires slotted { AreSlotted kernel.origins.now kernel.slotted.now }
+    requires there { kernel.begun < length lists.now }
     requires row { IsRowOfParts dotted.now.rules earleme
-        (placed_all kernel.origins.now kernel.slotted.now) begun.now }
+        (placed_all kernel.origins.now kernel.slotted.now) (list_at lists.now kernel.begun) }
     ensures { IsListOf
         (λ item. Contains (row_items dotted.now.rules earleme
-        (placed_all kernel.entry.origins.now kernel.entry.slotted.now) begun.now) item ×
+        (placed_all kernel.entry.origins.now kernel.entry.slotted.now)
+        (list_at lists.now kernel.entry.begun)) item ×
         IsWhole dotted.now.flat item)
         result }
 {
     dotted.known();
-    narrowed(dotted, kernel, begun, earleme, dotted.whole())
+    narrowed(dotted, kernel, lists, earleme, dotted.whole())
 }
 
 /// The items of a row that wait for terminals.
 pub fn scanned<'r>(
     dotted: &'r DottedRules<'_>,
     kernel: KernelRef<'r>,
-    begun: &'r [u32],
+    lists: &'r SharedLists,
     earleme: u32,
 ) -> Row<'r>
     requires slotted { AreSlotted kernel.origins.now kernel.slotted.now }
+    requires there { kernel.begun < length lists.now }
     requires row { IsRowOfParts dotted.now.rules earleme
-        (placed_all kernel.origins.now kernel.slotted.now) begun.now }
+        (placed_all kernel.origins.now kernel.slotted.now) (list_at lists.now kernel.begun) }
     ensures { IsListOf
         (λ item. Contains (row_items dotted.now.rules earleme
-        (placed_all kernel.entry.origins.now kernel.entry.slotted.now) begun.now) item ×
+        (placed_all kernel.entry.origins.now kernel.entry.slotted.now)
+        (list_at lists.now kernel.entry.begun)) item ×
         WaitsForTerminal dotted.now.flat item)
         result }
 {
     dotted.known();
-    narrowed(dotted, kernel, begun, earleme, dotted.scanned())
+    narrowed(dotted, kernel, lists, earleme, dotted.scanned())
+}
+
+/// Whether an item of a row's own waits for a terminal.
+pub fn has_scanned(dotted: &DottedRules<'_>, kernel: KernelRef<'_>) -> bool
+    requires slotted { AreSlotted kernel.origins.now kernel.slotted.now }
+    requires row { IsPackedRow (length dotted.now.rules)
+        (placed_all kernel.origins.now kernel.slotted.now) }
+    ensures { IsTrue result ↔ ((item : TheItem) × Contains (map (unpacked dotted.now.rules)
+        (placed_all kernel.entry.origins.now kernel.entry.slotted.now)) item ×
+        WaitsForTerminal dotted.now.flat item) }
+{
+    !within_span(kernel.slotted, dotted.scanned()).is_empty()
 }
 
 fn has_slotted(slotted: &[u64], number: u64) -> bool

@@ -1,18 +1,21 @@
 //! Rows of items, and the lists that they share.
-ghost use Rattle.std.specs.Prelude.{◌≡◌, ◌≢◌, ℕ, List, ◌<◌, ◌≤◌, ◌↔◌, ◌⊎◌, ◌++◌, ◌∷◌, [], length, map, sum, ◌+◌, ◌^◌, Some, Contains, IsTrue, IfOk, OnOk, OnErr};
+ghost use Rattle.std.specs.Prelude.{◌≡◌, ◌≢◌, ℕ, List, ◌<◌, ◌≤◌, ◌↔◌, ◌⊎◌, ◌++◌, ◌∷◌, [], length, map, sum, ◌+◌, ◌^◌, Some, Contains, IsTrue, IfSome, IfOk, OnOk, OnErr};
 ghost use Rattle.std.specs.List.{AllPairs};
 ghost use Rattle.recognizer_model.specs.declared.Item.{Item as TheItem};
 ghost use Rattle.recognizer_model.specs.Counts.{IsListOf};
 ghost use Rattle.recognizer_model.specs.Items.{after, IsWhole};
-ghost use Rattle.item_rows.specs.Rows.{row_at, shared_at, with_row, IsBegunAt, AreAlike};
+ghost use Rattle.item_rows.specs.Rows.{row_at, shared_at, kind_at, with_row, IsBegunAt, AreAlike, AreOfKinds};
 ghost use Rattle.item_rows.specs.Kept.{AreItems, IsAwaited, WaitsForTerminal};
+ghost use Rattle.item_rows.specs.Unbound.{AreRowsOf, rows_with};
 
-use crate::dotted::DottedRules;
-use crate::packed::{Row, contains, list_dotted, pack_row, row_of, scanned, waiting, whole};
+use crate::dotted::{DottedRules, UnboundDots};
+use crate::packed::{
+    Row, contains, has_scanned, list_dotted, pack_row, row_of, scanned, waiting, whole,
+};
 use grammar_core::Flat;
-use jagged::Jagged;
 use kernels::Kernels;
 use recognizer_model::Item;
+use shared_lists::SharedLists;
 use std::alloc::{AllocError, Global};
 use std::marker::Model;
 
@@ -22,7 +25,7 @@ pub struct Rows<'g> {
     // the items that are a row's own, and the number of the list that it shares, row by row
     kernels: Kernels,
     // the lists that rows share
-    lists: Jagged<u32>,
+    lists: SharedLists,
     // how many items the rows have together
     count: usize,
     // what is put last
@@ -45,7 +48,7 @@ impl<'g> Drop for Rows<'g> {
 
 impl<'g> Model for Rows<'g> {
     ghost use Rattle.item_rows.specs.Rows.{ItemRows};
-    ghost use Rattle.item_rows.specs.Held.{rows_from, lists_from, AreHeld};
+    ghost use Rattle.item_rows.specs.Held.{rows_from, lists_from, kinds_of, AreHeld};
 
     ghost Value = { ItemRows };
 
@@ -53,6 +56,7 @@ impl<'g> Model for Rows<'g> {
       flat = r.dotted.flat;
       sets = rows_from r.dotted.rules r.lists 0 r.kernels;
       shared = lists_from r.dotted.rules r.lists;
+      kinds = kinds_of r.kernels;
     } };
 
     ghost invariant = { λ r. AreHeld r.dotted.rules r.lists r.kernels r.count };
@@ -64,8 +68,8 @@ impl<'g> Rows<'g> {
         ensures { IfOk result (λ r. (r.flat ≡ flat.now) × (r.sets ≡ []) × (r.shared ≡ [] ∷ [])) }
     {
         let dotted = DottedRules::new(alloc, flat)?;
-        let mut lists = Jagged::new(alloc);
-        lists.push(&[])?;
+        let mut lists = SharedLists::new(alloc);
+        lists.push(&[], 0)?;
         Ok(Rows {
             dotted,
             kernels: Kernels::new(alloc),
@@ -96,7 +100,7 @@ impl<'g> Rows<'g> {
         ensures { result ≡ row_at self.now.sets j }
     {
         let kernel = self.kernels.kernel(j);
-        let begun = self.lists.row(kernel.begun as usize);
+        let begun = self.lists.list(kernel.begun as usize);
         row_of(self.dotted.rules(), kernel, begun, j as u32)
     }
 
@@ -109,8 +113,7 @@ impl<'g> Rows<'g> {
             result }
     {
         let kernel = self.kernels.kernel(j);
-        let begun = self.lists.row(kernel.begun as usize);
-        waiting(&self.dotted, kernel, begun, j as u32, symbol)
+        waiting(&self.dotted, kernel, &self.lists, j as u32, symbol)
     }
 
     /// The items of a row with the dot at the end.
@@ -120,8 +123,7 @@ impl<'g> Rows<'g> {
             (λ item. Contains (row_at self.now.sets j) item × IsWhole self.now.flat item) result }
     {
         let kernel = self.kernels.kernel(j);
-        let begun = self.lists.row(kernel.begun as usize);
-        whole(&self.dotted, kernel, begun, j as u32)
+        whole(&self.dotted, kernel, &self.lists, j as u32)
     }
 
     /// The items of a row that wait for terminals.
@@ -132,8 +134,25 @@ impl<'g> Rows<'g> {
             result }
     {
         let kernel = self.kernels.kernel(j);
-        let begun = self.lists.row(kernel.begun as usize);
-        scanned(&self.dotted, kernel, begun, j as u32)
+        scanned(&self.dotted, kernel, &self.lists, j as u32)
+    }
+
+    /// The number of the list that a row shares, if no item of the row's own waits for a terminal: then the row waits for the terminals that
+    /// the list waits for.
+    pub fn list_alone(&self, j: usize) -> Option<u32>
+        requires { j < length self.now.sets }
+        ensures there { IfSome result (λ k. k < length self.now.shared) }
+        ensures alone { IfSome result (λ k. (item : TheItem) → WaitsForTerminal self.now.flat item →
+            Contains (row_at self.now.sets j) item ↔
+            IsBegunAt (shared_at self.now.shared k) j item) }
+    {
+        self.dotted.known();
+        let kernel = self.kernels.kernel(j);
+        if has_scanned(&self.dotted, kernel) {
+            None
+        } else {
+            Some(kernel.begun)
+        }
     }
 
     /// Whether an item is in a row.
@@ -142,13 +161,21 @@ impl<'g> Rows<'g> {
         ensures { IsTrue result ↔ Contains (row_at self.now.sets j) item }
     {
         let kernel = self.kernels.kernel(j);
-        let begun = self.lists.row(kernel.begun as usize);
+        let begun = self.lists.list(kernel.begun as usize);
         contains(&self.dotted, kernel, begun, j as u32, item)
     }
 
-    /// The number of a row's shape, of which no clause tells more.
+    /// States what is always so of rows.
+    pub fn known(&self)
+        ensures { AreOfKinds self.now }
+    {
+        self.kernels.known();
+    }
+
+    /// The number of a row's shape.
     pub fn kind(&self, j: usize) -> u32
         requires { j < length self.now.sets }
+        ensures { result ≡ kind_at self.now.kinds j }
     {
         self.kernels.kind(j)
     }
@@ -157,7 +184,8 @@ impl<'g> Rows<'g> {
     pub fn is_alike(&self, i: usize, j: usize) -> bool
         requires first { i < length self.now.sets }
         requires second { j < length self.now.sets }
-        ensures { IsTrue result → AreAlike (row_at self.now.sets i) (row_at self.now.sets j) }
+        ensures alike { IsTrue result → AreAlike (row_at self.now.sets i) (row_at self.now.sets j) }
+        ensures exact { IsTrue result ↔ kind_at self.now.kinds i ≡ kind_at self.now.kinds j }
     {
         self.kernels.is_alike(i, j)
     }
@@ -165,7 +193,10 @@ impl<'g> Rows<'g> {
     /// Keeps the first row alone, and the lists that rows share.
     pub fn keep_first(&mut self)
         requires { 0 < length self.old.sets }
-        ensures { self.new ≡ record self.old { sets = row_at self.old.sets 0 ∷ [] } }
+        ensures { self.new ≡ record self.old {
+          sets = row_at self.old.sets 0 ∷ [];
+          kinds = kind_at self.old.kinds 0 ∷ [];
+        } }
     {
         let count = self.row(0).len();
         self.kernels.keep_first();
@@ -190,7 +221,7 @@ impl<'g> Rows<'g> {
         }
         pack_row(&self.dotted, items, &mut self.next)?;
         list_dotted(&self.next, &mut self.numbers)?;
-        self.lists.push(&self.numbers)?;
+        self.lists.push(&self.numbers, self.dotted.bounds())?;
         Ok(number as u32)
     }
 
@@ -201,7 +232,8 @@ impl<'g> Rows<'g> {
         requires begun { begun < length self.old.shared }
         requires apart { (item : TheItem) → Contains items.now item →
             ¬ IsBegunAt (shared_at self.old.shared begun) (length self.old.sets) item }
-        ensures ok { OnOk result ((row : List TheItem) × (self.new ≡ with_row self.old row) ×
+        ensures ok { OnOk result ((row : List TheItem) × (kind : ℕ) ×
+            (self.new ≡ with_row self.old row kind) ×
             IsListOf (λ item. Contains items.now item ⊎
             IsBegunAt (shared_at self.old.shared begun) (length self.old.sets) item) row) }
         ensures err { OnErr result (self.new ≡ self.old) }
@@ -212,11 +244,70 @@ impl<'g> Rows<'g> {
             return Err(AllocError);
         }
         pack_row(&self.dotted, items, &mut self.next)?;
-        let size = self.next.len() + self.lists.row(begun as usize).len();
+        let size = self.next.len() + self.lists.list(begun as usize).len();
         let count = add(self.count, size)?;
         self.kernels.push(&self.next, begun)?;
         self.count = count;
         Ok(())
+    }
+
+    /// The same without the grammar.
+    pub fn unbind(self) -> UnboundRows
+        ensures rows { AreRowsOf self.entry.flat result }
+        ensures is { rows_with self.entry.flat result ≡ self.entry }
+    {
+        let Rows {
+            dotted,
+            kernels,
+            lists,
+            count,
+            next,
+            numbers,
+        } = self;
+        UnboundRows {
+            dots: dotted.unbind(),
+            kernels,
+            lists,
+            count,
+            next,
+            numbers,
+        }
+    }
+}
+
+/// Rows of items of a flat grammar, without the grammar.
+#[derive(Drop)]
+pub struct UnboundRows {
+    dots: UnboundDots,
+    kernels: Kernels,
+    lists: SharedLists,
+    count: usize,
+    next: Vec<u64>,
+    numbers: Vec<u32>,
+}
+
+impl UnboundRows {
+    /// The same with their grammar.
+    pub fn bind<'g>(self, flat: &'g Flat) -> Rows<'g>
+        requires { AreRowsOf flat.now self }
+        ensures { result ≡ rows_with flat.now self }
+    {
+        let UnboundRows {
+            dots,
+            kernels,
+            lists,
+            count,
+            next,
+            numbers,
+        } = self;
+        Rows {
+            dotted: dots.bind(flat),
+            kernels,
+            lists,
+            count,
+            next,
+            numbers,
+        }
     }
 }
 

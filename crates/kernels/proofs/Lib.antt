@@ -1,3 +1,4 @@
 pub mod Numbers
 pub mod Slotting
 pub mod Shaping
+pub mod Guessing

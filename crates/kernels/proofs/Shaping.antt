@@ -1,6 +1,6 @@
 -- Kernels by their shapes.
 use Rattle.std.proofs.Common.{◌≡◌, ℕ, zero, suc, ◌<◌, ◌++◌, List, [], ◌∷◌, length, Bool, true, false, nat_eq, if◌then◌else◌, Some, slice_get, refl, sym, ◌∙◌, ap, subst, arith}
-use Rattle.std.specs.Prelude.{slice_index_or, IsTrue}
+use Rattle.std.specs.Prelude.{slice_index_or}
 use Rattle.std.specs.List.{position, list_any}
 use Rattle.std.specs.Cmp.Lexicographic.{pointwise}
 use Rattle.std.proofs.lemmas.Bool.{eqb-true, and_parts}
@@ -58,7 +58,7 @@ module _ (shapes : List Shape) where
     pub kind : ℕ
     pub has : slice_get kinds j ≡ Some kind
     pub shaped : IsShaped shapes kind (list_at origins j)
-    pub is : kernel_at (kernels_of shapes kinds origins) j ≡ kernel_of (slice_get shapes kind) (list_at origins j)
+    pub is : kernel_at (kernels_of shapes kinds origins) j ≡ kernel_of (slice_get shapes kind) kind (list_at origins j)
 
   pub shaped_at : (kinds : List ℕ) (origins : List (List ℕ)) (j : ℕ) → AreShaped shapes kinds origins → j < length kinds → IsKernelAt kinds origins j
   shaped_at [] [] j are lt = absurd (omega arith)
@@ -82,6 +82,14 @@ module _ (shapes : List Shape) (kinds : List ℕ) (origins : List (List ℕ)) (v
   pub in_origins : j < length origins
   in_origins = let (a, b) = shaped_length shapes kinds origins are in let s = ap length seen in omega arith
 
+  -- the number of its shape
+  pub kind_here : slice_index_or kinds j 0 ≡ (kernel_at view j).kind
+  kind_here =
+      let at = shaped_at shapes kinds origins j are in_kinds in
+      let (lt', has) = get_index kinds j 0 at.kind at.has in
+      let made = ap (λ s. kernel_of s at.kind (list_at origins j)) at.shaped.is in
+      has ∙ ap (λ (k : Kernel). k.kind) (sym (ap (λ (v : List Kernel). kernel_at v j) (sym seen) ∙ (at.is ∙ made)))
+
   module _ (shape : Shape) (told : (kind : ℕ) → slice_get kinds j ≡ Some kind → slice_get shapes kind ≡ Some shape) where
     read : IsKernelAt shapes kinds origins j
     read = shaped_at shapes kinds origins j are in_kinds
@@ -95,8 +103,8 @@ module _ (shapes : List Shape) (kinds : List ℕ) (origins : List (List ℕ)) (v
     pub slotted_here : AreSlotted (list_at origins j) shape.slotted.items
     slotted_here = subst (λ (s : Shape). AreSlotted (list_at origins j) s.slotted.items) same read.shaped.slotted
 
-    kernel_here : kernel_at view j ≡ kernel_of (Some shape) (list_at origins j)
-    kernel_here = ap (λ (v : List Kernel). kernel_at v j) (sym seen) ∙ (read.is ∙ ap (λ s. kernel_of s (list_at origins j)) here)
+    kernel_here : kernel_at view j ≡ kernel_of (Some shape) read.kind (list_at origins j)
+    kernel_here = ap (λ (v : List Kernel). kernel_at v j) (sym seen) ∙ (read.is ∙ ap (λ s. kernel_of s read.kind (list_at origins j)) here)
 
     pub packed_here : placed_all (list_at origins j) shape.slotted.items ≡ (kernel_at view j).packed
     packed_here = ap (λ (k : Kernel). k.packed) (sym kernel_here)
@@ -118,7 +126,7 @@ module _ (old new : List Shape) (kept : (k : ℕ) (s : Shape) → slice_get old 
   kernels_still (k ∷ kinds) [] are = absurd are
   kernels_still (k ∷ kinds) (o ∷ rows) (is, are) =
       let rest = kernels_still kinds rows are in
-      let head : kernel_of (slice_get new k) o ≡ kernel_of (slice_get old k) o = ap (λ s. kernel_of s o) (kept k is.shape is.is ∙ sym is.is) in
+      let head : kernel_of (slice_get new k) k o ≡ kernel_of (slice_get old k) k o = ap (λ s. kernel_of s k o) (kept k is.shape is.is ∙ sym is.is) in
       λ i. head i ∷ rest i
 
 -- one kernel more
@@ -133,17 +141,17 @@ module _ (shapes : List Shape) (kind : ℕ) (row : List ℕ) (shape : Shape) (is
   shaped_pushed (k ∷ kinds) (o ∷ rows) (first, are) = (first, shaped_pushed kinds rows are)
 
   module _ (packed : List ℕ) (same : placed_all row shape.slotted.items ≡ packed) where
-    kernel_new : kernel_of (slice_get shapes kind) row ≡ record { begun = shape.begun; packed = packed }
+    kernel_new : kernel_of (slice_get shapes kind) kind row ≡ record { begun = shape.begun; packed = packed; kind = kind }
     kernel_new =
-        ap (λ s. kernel_of s row) is.is
-        ∙ (λ i. record { begun = is.begun i; packed = (ap (placed_all row) is.slotted ∙ same) i })
+        ap (λ s. kernel_of s kind row) is.is
+        ∙ (λ i. record { begun = is.begun i; packed = (ap (placed_all row) is.slotted ∙ same) i; kind = kind })
 
     pub kernels_pushed : (kinds : List ℕ) (origins : List (List ℕ)) → AreShaped shapes kinds origins →
-        kernels_of shapes (kinds ++ kind ∷ []) (origins ++ row ∷ []) ≡ kernels_of shapes kinds origins ++ (record { begun = shape.begun; packed = packed }) ∷ []
+        kernels_of shapes (kinds ++ kind ∷ []) (origins ++ row ∷ []) ≡ kernels_of shapes kinds origins ++ (record { begun = shape.begun; packed = packed; kind = kind }) ∷ []
     kernels_pushed [] [] are = λ i. kernel_new i ∷ []
     kernels_pushed [] (o ∷ rows) are = absurd are
     kernels_pushed (k ∷ kinds) [] are = absurd are
-    kernels_pushed (k ∷ kinds) (o ∷ rows) (first, are) = ap (λ l. kernel_of (slice_get shapes k) o ∷ l) (kernels_pushed kinds rows are)
+    kernels_pushed (k ∷ kinds) (o ∷ rows) (first, are) = ap (λ l. kernel_of (slice_get shapes k) k o ∷ l) (kernels_pushed kinds rows are)
 
 -- kernels of one shape
 module _ (shapes : List Shape) (kinds : List ℕ) (origins : List (List ℕ)) (view : List Kernel) (are : AreShaped shapes kinds origins) (seen : kernels_of shapes kinds origins ≡ view) where
@@ -163,12 +171,17 @@ module _ (shapes : List Shape) (kinds : List ℕ) (origins : List (List ℕ)) (v
         sym (dotted_placed (list_at origins j) shape.slotted.items (slotted_here shapes kinds origins view are seen j lt shape told))
         ∙ ap dotted_of (packed_here shapes kinds origins view are seen j lt shape told)
 
-  module _ (i j : ℕ) (li : i < length view) (lj : j < length view) (a b : ℕ) (ia : a ≡ slice_index_or kinds i 0) (ib : b ≡ slice_index_or kinds j 0) (e : IsTrue (nat_eq a b)) where
+  module _ (i j : ℕ) (li : i < length view) (lj : j < length view) (e : (kernel_at view i).kind ≡ (kernel_at view j).kind) where
+    abbrev a : ℕ
+    a = slice_index_or kinds i 0
+
     hi : slice_get kinds i ≡ Some a
-    hi = slice_get-get_or kinds i 0 (in_kinds shapes kinds origins view are seen i li) ∙ ap Some (sym ia)
+    hi = slice_get-get_or kinds i 0 (in_kinds shapes kinds origins view are seen i li)
 
     hj : slice_get kinds j ≡ Some a
-    hj = slice_get-get_or kinds j 0 (in_kinds shapes kinds origins view are seen j lj) ∙ ap Some (sym ib ∙ sym (eqb-true a b e))
+    hj =
+        slice_get-get_or kinds j 0 (in_kinds shapes kinds origins view are seen j lj)
+        ∙ ap Some (kind_here shapes kinds origins view are seen j lj ∙ (sym e ∙ sym (kind_here shapes kinds origins view are seen i li)))
 
     at : IsKernelAt shapes kinds origins i
     at = shaped_at shapes kinds origins i are (in_kinds shapes kinds origins view are seen i li)

@@ -1,6 +1,7 @@
 //! What rows of items have of their own, held by shapes, which many rows have alike, and origins.
 #![tactic(auto)]
 
+mod guess;
 mod shapes;
 mod slots;
 

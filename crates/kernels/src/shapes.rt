@@ -1,9 +1,10 @@
 //! Kernels of rows: the items that are a row's own. Each is held by its shape, which many rows have alike, and its origins.
-ghost use Rattle.std.specs.Prelude.{◌≡◌, ℕ, ◌<◌, ◌++◌, ◌∷◌, [], length, take, Some, slice_get, slice_index_or, IsTrue, IfOk, OnOk, OnErr};
+ghost use Rattle.std.specs.Prelude.{◌≡◌, ℕ, ◌<◌, ◌↔◌, ◌++◌, ◌∷◌, [], length, take, Some, slice_get, slice_index_or, IsTrue, IfOk, OnOk, OnErr};
 ghost use Rattle.kernels.specs.Slots.{Rises, placed_all, dotted_of, AreSlotted};
-ghost use Rattle.kernels.specs.Shapes.{kernel_at, IsShapeAt};
+ghost use Rattle.kernels.specs.Shapes.{kernel_at, AreOfShapes, IsShapeAt, IsOfShape};
 ghost use Rattle.kernels.specs.declared.shapes.Shape.{Shape as TheShape};
 
+use crate::guess::{fits, guess_at, place_of, put_guess};
 use crate::slots::{list_origins, list_slotted};
 use indexmap::IndexSet;
 use jagged::Jagged;
@@ -38,6 +39,8 @@ pub struct Kernels {
     // what is put last
     next: Shape,
     slots: Vec<u32>,
+    // numbers of shapes that were found before
+    guesses: Vec<u32>,
 }
 
 impl Model for Kernels {
@@ -65,6 +68,7 @@ impl Kernels {
                 slotted: Vec::new(alloc),
             },
             slots: Vec::new(alloc),
+            guesses: Vec::new(alloc),
         }
     }
 
@@ -91,9 +95,17 @@ impl Kernels {
         }
     }
 
-    /// The number of a kernel's shape, of which no clause tells more.
+    /// States what is always so of kernels.
+    pub fn known(&self)
+        ensures { AreOfShapes self.now }
+    {
+        let _count = self.kinds.len();
+    }
+
+    /// The number of a kernel's shape.
     pub fn kind(&self, j: usize) -> u32
         requires { j < length self.now }
+        ensures { result ≡ (kernel_at self.now j).kind }
     {
         kind_at(&self.kinds, j)
     }
@@ -102,6 +114,7 @@ impl Kernels {
     pub fn is_alike(&self, i: usize, j: usize) -> bool
         requires first { i < length self.now }
         requires second { j < length self.now }
+        ensures exact { IsTrue result ↔ (kernel_at self.now i).kind ≡ (kernel_at self.now j).kind }
         ensures begun { IsTrue result → (kernel_at self.now i).begun ≡ (kernel_at self.now j).begun }
         ensures dotted { IsTrue result →
             dotted_of (kernel_at self.now i).packed ≡ dotted_of (kernel_at self.now j).packed }
@@ -120,14 +133,22 @@ impl Kernels {
     /// One more kernel, of packed items in order, whose row shares a list.
     pub fn push(&mut self, packed: &[u64], begun: u32) -> Result<(), AllocError>
         requires { Rises packed.now }
-        ensures ok { OnOk result (self.new ≡
-            self.old ++ (record { begun = begun; packed = packed.now }) ∷ []) }
+        ensures ok { OnOk result ((kind : ℕ) × (self.new ≡
+            self.old ++ (record { begun = begun; packed = packed.now; kind = kind }) ∷ [])) }
         ensures err { OnErr result (self.new ≡ self.old) }
     {
-        list_origins(packed, &mut self.slots)?;
-        list_slotted(packed, &self.slots, &mut self.next.slotted)?;
-        self.next.begun = begun;
-        let kind = number_of(&mut self.shapes, &self.next)?;
+        let place = place_of(packed, begun);
+        let guess = guess_at(&self.guesses, place);
+        let next = &mut self.next;
+        let kind = kind_of(
+            &mut self.shapes,
+            guess,
+            packed,
+            begun,
+            next,
+            &mut self.slots,
+        )?;
+        put_guess(&mut self.guesses, place, kind);
         self.kinds.reserve(1)?;
         self.origins.push(&self.slots)?;
         self.kinds.push_reserved(kind);
@@ -179,4 +200,46 @@ fn number_of(shapes: &mut IndexSet<Shape>, shape: &Shape) -> Result<u32, AllocEr
     let copy = copy_of(shape)?;
     let (at, _) = shapes.insert_full(copy)?;
     number(at)
+}
+
+// Whether packed items are of the shape of a number, if there is one; then their origins are listed.
+fn is_of_shape(
+    shapes: &IndexSet<Shape>,
+    kind: u32,
+    packed: &[u64],
+    begun: u32,
+    origins: &mut Vec<u32>,
+) -> Result<bool, AllocError>
+    requires { Rises packed.now }
+    ensures { IfOk result (λ is. IsTrue is →
+        IsOfShape shapes.now.keys kind begun packed.now origins.new.items) }
+{
+    match shapes.get_index(kind as usize) {
+        Some(shape) if shape.begun == begun => fits(&shape.slotted, packed, origins),
+        _ => Ok(false),
+    }
+}
+
+// The number of the shape of packed items, which is looked up if it is not as guessed. Their origins are listed.
+fn kind_of(
+    shapes: &mut IndexSet<Shape>,
+    guess: u32,
+    packed: &[u64],
+    begun: u32,
+    next: &mut Shape,
+    origins: &mut Vec<u32>,
+) -> Result<u32, AllocError>
+    requires { Rises packed.now }
+    ensures shape { IfOk result (λ kind.
+        IsOfShape shapes.new.keys kind begun packed.now origins.new.items) }
+    ensures kept { (k : ℕ) (s : TheShape) → slice_get shapes.old.keys k ≡ Some s →
+        slice_get shapes.new.keys k ≡ Some s }
+{
+    if is_of_shape(shapes, guess, packed, begun, origins)? {
+        return Ok(guess);
+    }
+    list_origins(packed, origins)?;
+    list_slotted(packed, origins, &mut next.slotted)?;
+    next.begun = begun;
+    number_of(shapes, next)
 }

@@ -5,7 +5,8 @@ pub mod Adding
 pub mod Growing
 pub mod Loops
 pub mod Hiding
-pub mod Below
+pub mod Standing
+pub mod Walking
 pub mod Noting
 pub mod Ways
 pub mod Twice

@@ -1,22 +1,14 @@
 -- Sets that grow until what follows from their items is there.
-use Rattle.std.specs.Prelude.{◌≡◌, ℕ, ◌<◌, ◌≤◌, ◌++◌, ◌∷◌, [], List, length, slice_index_or, Contains, ◌↔◌, ◌⊎◌}
+use Rattle.std.specs.Prelude.{ℕ, ◌<◌, ◌≤◌, List, length, slice_index_or, Contains}
 use Rattle.recognizer_model.specs.declared.Item.{Item}
 use Rattle.recognizer_model.specs.Flat.{FlatGrammar}
 use Rattle.item_rows.specs.Kept.{AreItems}
+pub use Rattle.item_sets.specs.Adding.{Adds, Grows}
 
 -- what some items lead to
 pub data IsReached (F : Item → Item → Type 0) (seeds : List Item) : Item → Type 0 where
   Seed : {item : Item} → Contains seeds item → IsReached F seeds item
   Step : {item next : Item} → IsReached F seeds item → F item next → IsReached F seeds next
-
--- an item that was there, or that goes last
-abbrev pub Adds : (old new : List Item) → Item → Type 0
-Adds old new item = ((new ≡ old) × Contains old item) ⊎ ((new ≡ old ++ item ∷ []) × (¬ Contains old item))
-
--- a set after some items were added to it
-pub record Grows (old new items : List Item) : Type 0 where
-  pub begins : (more : List Item) × (new ≡ old ++ more)
-  pub has : (item : Item) → Contains new item ↔ (Contains old item ⊎ Contains items item)
 
 -- a set in which what follows from the first k items is there
 pub record IsClosedTo (g : FlatGrammar) (F : Item → Item → Type 0) (seeds keys : List Item) (k : ℕ) : Type 0 where

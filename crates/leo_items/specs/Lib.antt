@@ -1,7 +1,7 @@
 pub mod Steps
 pub mod Memo
-pub mod Near
 pub mod ByRows
 pub mod Ways
 pub mod Closed
 pub mod Hidden
+pub mod Walked

@@ -38,7 +38,7 @@ pub fn pair_above(flat: &Flat, item: Item) -> Pair
 }
 
 // A way is noted from so many steps on: a shorter one is found as fast again.
-const LONG: usize = 8;
+const LONG: usize = 4;
 
 /// Where a way ends, and how many steps were walked of it after the first.
 #[derive(Clone, Copy)]

@@ -5,26 +5,22 @@ ghost use Rattle.recognizer_model.specs.Flat.{IsRule};
 ghost use Rattle.recognizer_model.specs.Counts.{IsListOf};
 ghost use Rattle.item_rows.specs.Kept.{AreItems, HasRows};
 ghost use Rattle.leo_items.specs.ByRows.{IsMemo, AreNulled};
-ghost use Rattle.leo_items.specs.Closed.{IsReached, Grows};
-ghost use Rattle.leo_items.specs.Hidden.{IsFrom, IsSingleStep, NoneLeadsOn, IsHiddenIn, LeadsUpIn, IsBottomIn, IsBottomOf, IsBelowOf, StepsTwice, SomeStepsTwiceIn};
+ghost use Rattle.leo_items.specs.Closed.{IsReached};
+ghost use Rattle.leo_items.specs.Hidden.{IsFrom, IsSingleStep, NoneLeadsOn, IsHiddenIn, LeadsUpIn, StepsTwice, SomeStepsTwiceIn};
 
+use crate::Memo;
 use crate::chain::{find, pair_above, step_in};
-use crate::{Memo, NearHasher};
 use grammar_core::Flat;
-use indexmap::IndexSet;
 use item_rows::{Row, Rows};
+use item_sets::ItemSet;
 use recognizer_model::Item;
-use std::alloc::{AllocError, AllocFailed, Global};
-use std::hash::BuildHasherDefault;
-
-// Items, of which those with near origins are looked up near each other.
-type ItemSet = IndexSet<Item, BuildHasherDefault<NearHasher>>;
+use std::alloc::{AllocError, Global};
 
 // Puts the items that begin at a place or after it.
-fn put_from(items: &Row<'_>, from: u32, set: &mut ItemSet) -> Result<(), AllocFailed<Item>>
-    requires { set.old.keys ≡ [] }
+fn put_from(items: &Row<'_>, from: u32, set: &mut ItemSet) -> Result<(), AllocError>
+    requires { set.old ≡ [] }
     ensures { OnOk result ((item : TheItem) →
-        Contains set.new.keys item ↔ IsFrom items.now from item) }
+        Contains set.new item ↔ IsFrom items.now from item) }
 {
     for k in 0..items.len() {
         let item = items.at(k);
@@ -95,17 +91,17 @@ fn add_steps(
     earleme: u32,
     from: u32,
     set: &mut ItemSet,
-) -> Result<(), AllocFailed<Item>>
+) -> Result<(), AllocError>
     requires rows { HasRows flat.now rows.now }
     requires earleme { earleme < length rows.now.sets }
-    requires items { AreItems flat.now set.old.keys }
-    ensures begins { OnOk result ((more : List TheItem) × (set.new.keys ≡ set.old.keys ++ more)) }
+    requires items { AreItems flat.now set.old }
+    ensures begins { OnOk result ((more : List TheItem) × (set.new ≡ set.old ++ more)) }
     ensures closed { OnOk result ((item : TheItem) →
-        Contains set.new.keys item ↔
-        IsReached (IsSingleStep flat.now rows.now.sets earleme from) set.old.keys item) }
+        Contains set.new item ↔
+        IsReached (IsSingleStep flat.now rows.now.sets earleme from) set.old item) }
 {
     for k in 0..usize::MAX {
-        let Some(item) = set.get_index(k).copied() else {
+        let Some(item) = set.get(k) else {
             return Ok(());
         };
         if let Some(step) = single_step(flat, rows, earleme, from, item) {
@@ -143,7 +139,7 @@ pub fn list_hidden(
     if !some_leads_on(flat, rows, &whole, earleme, from) {
         return Ok(Vec::new(alloc));
     }
-    let mut set = IndexSet::with_hasher(alloc, BuildHasherDefault::new());
+    let mut set = ItemSet::new(alloc);
     put_from(&whole, from, &mut set)?;
     let kept = set.len();
     add_steps(flat, rows, earleme, from, &mut set)?;
@@ -209,45 +205,4 @@ pub fn some_steps_twice(flat: &Flat, rows: &Rows<'_>, earleme: u32, from: u32) -
         }
     }
     false
-}
-
-// Puts the items that are not there yet.
-fn put_all(items: &[Item], set: &mut ItemSet) -> Result<(), AllocFailed<Item>>
-    ensures { OnOk result (Grows set.old.keys set.new.keys items.now) }
-{
-    for item in items {
-        set.insert(*item)?;
-    }
-    Ok(())
-}
-
-/// The items of a set that are not kept and of which completions lead to one of some items in the end, by the kept ones of which they do.
-pub fn list_below(
-    alloc: Global,
-    flat: &Flat,
-    rows: &Rows<'_>,
-    earleme: u32,
-    tops: &[Item],
-    bottoms: &[Item],
-) -> Result<Vec<Item>, AllocError>
-    requires rows { HasRows flat.now rows.now }
-    requires earleme { earleme < length rows.now.sets }
-    requires bottoms { (item : TheItem) →
-        Contains bottoms.now item ↔ IsBottomOf flat.now rows.now.sets earleme tops.now item }
-    requires tops { (top : TheItem) → Contains tops.now top →
-        (item : TheItem) × IsBottomIn flat.now rows.now.sets earleme top item }
-    ensures { IfOk result (λ items. IsListOf (IsBelowOf flat.now rows.now.sets earleme tops.now)
-        items.items) }
-{
-    if bottoms.is_empty() {
-        return Ok(Vec::new(alloc));
-    }
-    let mut set = IndexSet::with_hasher(alloc, BuildHasherDefault::new());
-    put_all(tops, &mut set)?;
-    put_all(bottoms, &mut set)?;
-    let kept = set.len();
-    add_steps(flat, rows, earleme, 0, &mut set)?;
-    let below = list_behind(alloc, set.as_slice(), kept);
-    drop(set);
-    below
 }

@@ -1,22 +1,23 @@
 //! Leo items: the single way on from a completed symbol, where a set has no other, and what was noted of where such ways end.
 #![tactic(auto)]
 
+mod below;
 mod chain;
 mod hidden;
 mod memo;
-mod near;
 
 ghost use Rattle.std.specs.Prelude.{◌≡◌, ℕ, ◌+◌, ◌<◌, ◌^◌, List, length, Some, IfSome, IsNone, Contains};
 ghost use Rattle.recognizer_model.specs.declared.Item.{Item as TheItem};
 ghost use Rattle.recognizer_model.specs.Items.{after, IsWhole, advanced as item_after};
 ghost use Rattle.leo_items.specs.Steps.{IsStep, StepsAreLeo};
 
+pub use below::list_below;
 pub use chain::{pair_above, step_in, topmost};
 use grammar_core::Flat;
-pub use hidden::{list_below, list_hidden, single_step, some_steps_twice, top_above};
+pub use hidden::{list_hidden, single_step, some_steps_twice, top_above};
 use item_rows::Row;
+pub use item_sets::NearHasher;
 pub use memo::Memo;
-pub use near::NearHasher;
 use recognizer_model::Item;
 
 /// The item with its dot advanced.

@@ -2,8 +2,8 @@
 ghost use Rattle.std.specs.Prelude.{◌≡◌, ◌++◌, ◌∷◌, [], length, take, None, OnOk, OnErr};
 ghost use Rattle.leo_items.specs.Memo.{noted};
 
-use crate::NearHasher;
 use indexmap::IndexMap;
+use item_sets::NearHasher;
 use recognizer_model::{Item, Pair};
 use std::alloc::{AllocFailed, Global};
 use std::hash::BuildHasherDefault;

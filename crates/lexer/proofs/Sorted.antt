@@ -1,7 +1,12 @@
 -- Lists in order, of which some elements are kept.
 use Rattle.std.proofs.Common.{◌≡◌, ◌⊎◌, inl, inr, ℕ, ◌+◌, ◌<◌, ◌≤◌, ◌++◌, List, [], ◌∷◌, length, get_or, Contains, subst, arith, length-append}
 use Rattle.std.specs.List.Sorted.{IsStrictlySortedBy}
+use Rattle.std.specs.Prelude.{Result, Ok, Err, IfOk, IsTrue, is_ok}
+use Rattle.std.specs.List.{HoldsAt}
+use Rattle.std.specs.List.Sorted.{IsSearchInRange}
 use Rattle.std.specs.Ordering.{nat_cmp}
+use Rattle.std.specs.declared.cmp.Ordering.TheVariants.{Equal}
+use Rattle.std.proofs.lemmas.Map.Lookups.{exact_unsigned}
 use Rattle.std.proofs.lemmas.Bool.{cases_lt}
 use Rattle.std.proofs.lemmas.List.{get_or_append_left, get_or-append-add, get_or_default}
 use Rattle.std.proofs.lemmas.Map.Keys.{below_from_sorted, sorted_from_strictly_increasing}
@@ -41,3 +46,8 @@ sorted_push ms k h below = sorted_from_strictly_increasing (ms ++ k ∷ []) (λ 
 
 pub sorted_none : IsStrictlySortedBy nat_cmp []
 sorted_none = sorted_from_strictly_increasing [] (λ i lt. absurd (omega arith))
+
+-- what a search finds is there, in whatever order
+pub found_there : (xs : List ℕ) (x : ℕ) (r : Result ℕ ℕ) → IsSearchInRange r (length xs) → IfOk r (HoldsAt (λ y. nat_cmp y x ≡ Equal) xs) → IsTrue (is_ok r) → Contains xs x
+found_there xs x (Ok k) lt at t = (k, lt, exact_unsigned (get_or xs k x) x (at x))
+found_there xs x (Err k) lt at t = absurd (cc)

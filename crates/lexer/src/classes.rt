@@ -1,5 +1,5 @@
 //! Characters by the terminals that have them.
-ghost use Rattle.std.specs.Prelude.{◌≡◌, ℕ, ◌<◌, ◌⊎◌, ◌++◌, ◌∷◌, [], List, length, slice_index, IfOk, IfSome, IsTrue, ◌↔◌};
+ghost use Rattle.std.specs.Prelude.{◌≡◌, ◌≢◌, ℕ, ◌<◌, ◌⊎◌, ◌++◌, ◌∷◌, [], List, length, slice_get, Some, IfOk, IfSome, IsTrue, ◌↔◌};
 ghost use Rattle.lexer.specs.Terminals.{AreTerminalsOf, IsClassOf};
 ghost use Rattle.jagged.specs.Rows.{row_at};
 
@@ -10,27 +10,30 @@ use jagged::Jagged;
 use std::alloc::{AllocError, Global};
 use std::marker::Model;
 
+// So many characters has ASCII.
+const ASCII: usize = 128;
+
 /// Classes of characters that have the same terminals. It is seen as the terminals of each class.
 #[derive(Drop)]
 pub struct Classes<'g> {
     sets: &'g [(SymbolId, CharSet)],
     rows: Jagged<SymbolId>,
-    // the class of each ASCII character
-    ascii: Vec<usize>,
+    // the class of each ASCII character that was met
+    ascii: Vec<Option<usize>>,
     // room that is used again
     terminals: Vec<SymbolId>,
 }
 
 impl<'g> Model for Classes<'g> {
-    ghost use Rattle.std.specs.Prelude.{◌≡◌, ◌<◌, ℕ, length, slice_index};
+    ghost use Rattle.std.specs.Prelude.{◌≡◌, ℕ, Some, slice_get};
     ghost use Rattle.lexer.specs.Terminals.{ClassRows, IsClassOf};
 
     ghost Value = { ClassRows };
 
     ghost view = { λ t. record { sets = t.sets.now; rows = t.rows } };
 
-    ghost invariant = { λ t. (length t.ascii.items ≡ 128) ×
-        ((c : ℕ) → c < 128 → IsClassOf t.sets.now t.rows c (slice_index t.ascii.items c)) };
+    ghost invariant = { λ t. (c k : ℕ) → slice_get t.ascii.items c ≡ Some (Some k) →
+        IsClassOf t.sets.now t.rows c k };
 }
 
 fn is_same(row: &[SymbolId], terminals: &[SymbolId]) -> bool
@@ -81,38 +84,56 @@ fn class_of(
     Ok(class)
 }
 
-// The class of each ASCII character, by its code.
-fn ascii_classes(
-    alloc: Global,
-    sets: &[(SymbolId, CharSet)],
-    terminals: &mut Vec<SymbolId>,
-    rows: &mut Jagged<SymbolId>,
-) -> Result<Vec<usize>, AllocError>
-    ensures long { IfOk result (λ ascii. length ascii.items ≡ 128) }
-    ensures exact { IfOk result (λ ascii. (c : ℕ) → c < 128 →
-        IsClassOf sets.now rows.new c (slice_index ascii.items c)) }
+fn slot_at(ascii: &[Option<usize>], code: usize) -> Option<Option<usize>>
+    ensures { result ≡ slice_get ascii.now code }
+{
+    ascii.get(code).copied()
+}
+
+// The class that is noted of an ASCII character.
+fn class_at(ascii: &[Option<usize>], c: char) -> Option<usize>
+    ensures { (k : ℕ) → result ≡ Some k → slice_get ascii.now c ≡ Some (Some k) }
+{
+    match slot_at(ascii, c as u32 as usize) {
+        Some(class) => class,
+        None => None,
+    }
+}
+
+// Notes the class of a character, if it is one of ASCII.
+fn note_class(ascii: &mut Vec<Option<usize>>, c: char, class: usize)
+    ensures { (i k : ℕ) → slice_get ascii.new.items i ≡ Some (Some k) →
+        (slice_get ascii.old.items i ≡ Some (Some k)) ⊎ ((i ≡ c) × (k ≡ class)) }
+{
+    let code = c as u32 as usize;
+    if code >= ascii.len() {
+        return;
+    }
+    ascii[code] = Some(class);
+}
+
+// Room for the class of each ASCII character.
+fn no_classes(alloc: Global) -> Result<Vec<Option<usize>>, AllocError>
+    ensures { IfOk result (λ ascii. (i k : ℕ) → slice_get ascii.items i ≢ Some (Some k)) }
 {
     let mut ascii = Vec::new(alloc);
-    for code in 0..128u8 {
-        let class = class_of(sets, code as char, terminals, rows)?;
-        ascii.push(class)?;
+    for _ in 0..ASCII {
+        ascii.push(None)?;
     }
     Ok(ascii)
 }
 
 impl<'g> Classes<'g> {
-    /// The classes of the ASCII characters.
+    /// No character is met yet.
     pub fn new(alloc: Global, sets: &'g [(SymbolId, CharSet)]) -> Result<Classes<'g>, AllocError>
         ensures { IfOk result (λ classes. classes.sets ≡ sets.now) }
     {
-        let mut rows = Jagged::new(alloc);
-        let mut terminals = Vec::new(alloc);
-        let ascii = ascii_classes(alloc, sets, &mut terminals, &mut rows)?;
+        let ascii = no_classes(alloc)?;
         Ok(Classes {
             sets,
-            rows,
+            rows: Jagged::new(alloc),
             ascii,
-            terminals,
+            terminals: Vec::new(alloc),
         })
     }
 
@@ -122,12 +143,12 @@ impl<'g> Classes<'g> {
         ensures grown { (more : List (List ℕ)) × (self.new.rows ≡ self.old.rows ++ more) }
         ensures class { IfOk result (IsClassOf self.new.sets self.new.rows c) }
     {
-        let code = c as u32;
-        if code < 128 {
-            Ok(self.ascii[code as usize])
-        } else {
-            class_of(self.sets, c, &mut self.terminals, &mut self.rows)
+        if let Some(class) = class_at(&self.ascii, c) {
+            return Ok(class);
         }
+        let class = class_of(self.sets, c, &mut self.terminals, &mut self.rows)?;
+        note_class(&mut self.ascii, c, class);
+        Ok(class)
     }
 
     /// The terminals of a class.

@@ -151,10 +151,28 @@ fn start_of(flat: &Flat, rule: u32) -> Option<u32>
     }
 }
 
-fn is_one_of(candidates: &[u32], start: u32) -> bool
+// Whether a binary search comes to the start, as it does where the candidates are in order and have it.
+fn is_found(candidates: &[u32], start: u32) -> bool
+    ensures { IsTrue result → Contains candidates.now start }
+{
+    candidates.binary_search(&start).is_ok()
+}
+
+fn is_there(candidates: &[u32], start: u32) -> bool
     ensures { IsTrue result ↔ Contains candidates.now start }
 {
     candidates.contains(&start)
+}
+
+// Whether the start is a candidate. They are in order where none of them is always looked for.
+fn is_one_of(candidates: &[u32], start: u32) -> bool
+    ensures { IsTrue result ↔ Contains candidates.now start }
+{
+    if is_found(candidates, start) {
+        true
+    } else {
+        is_there(candidates, start)
+    }
 }
 
 // Lists the start of the only rule that is done, if it is one of the candidates.

@@ -1,5 +1,5 @@
 -- Notes of what is looked for: they are right, and stay so while sets are added.
-use Rattle.std.proofs.Common.{arith, ◌≡◌, ◌↔◌, ◌⊎◌, inl, inr, ℕ, zero, suc, ◌+◌, ◌<◌, ◌≤◌, IsFalse, List, [], ◌∷◌, ◌++◌, length, get_or, slice_set, All, Contains, Result, Ok, Err, OnOk, OnErr, refl, sym, ◌∙◌, ap, subst, length-append}
+use Rattle.std.proofs.Common.{arith, ◌≡◌, ◌≢◌, ◌↔◌, ◌⊎◌, inl, inr, ℕ, zero, suc, ◌+◌, ◌<◌, ◌≤◌, IsFalse, List, [], ◌∷◌, ◌++◌, length, get_or, slice_set, All, Contains, Result, Ok, Err, OnOk, OnErr, refl, sym, ◌∙◌, ap, subst, length-append}
 use Rattle.std.proofs.lemmas.List.{get_or_append_left, get_or-append-add}
 use Rattle.std.proofs.lemmas.List.Elements.{All-contains, Contains-append_left, Contains-append_right, Contains-append_cases}
 use Rattle.finite_sets.proofs.Lists.{Contains-none, Contains-map}
@@ -12,7 +12,7 @@ use Rattle.earley_sets.specs.Recognizer.{Recognizer, set_at, WaitsAt, IsExpected
 use Rattle.earley_sets.proofs.Membership.{Contains-cons_cases, Contains-map_from}
 use Rattle.prepared_grammars.specs.Gathered.{Gathers}
 use Rattle.scanless.specs.Pieces.{AreCandidates}
-use Rattle.scanless.specs.Noted.{told, AreWithin, IsSought, AreSought, AreNoted, Grows}
+use Rattle.scanless.specs.Noted.{told, Noted, none_noted, hint_at, SetsHint, AreWithin, IsSought, AreSought, AreNoted, Grows}
 use Rattle.scanless.specs.Taking.{Keeps}
 use Rattle.scanless.specs.declared.notes.Note.{Note}
 
@@ -62,6 +62,29 @@ module _ (lists later : List (List ℕ)) (starts : List ℕ) (e : later ≡ list
           | inl o ↦ inl (subst (Contains (told lists notes)) (sym (same ∙ ap (λ r. (n.place, r)) (same_row n.list (within n o)))) (Contains-map (λ (n : Note). (n.place, row_at lists n.list)) notes n o))
           | inr is ↦ inr (ap (λ (p : ℕ × List ℕ). p.0) same ∙ ap (λ (m : Note). m.place) is, ap (λ (p : ℕ × List ℕ). p.1) same ∙ (ap (λ (m : Note). row_at later m.list) is ∙ last_row note.list list_is))
         ]
+
+-- ---- hints
+
+pub hint_pushed : (hints : List ℕ) (k : ℕ) → hint_at (hints ++ 0 ∷ []) k ≡ hint_at hints k
+hint_pushed [] zero = refl
+hint_pushed [] (suc k) = refl
+hint_pushed (x ∷ xs) zero = refl
+hint_pushed (x ∷ xs) (suc k) = hint_pushed xs k
+
+hint_there : (hints : List ℕ) (kind hint : ℕ) → kind < length hints → hint_at (slice_set hints kind hint) kind ≡ hint
+hint_there [] kind hint lt = absurd (omega arith)
+hint_there (x ∷ xs) zero hint lt = refl
+hint_there (x ∷ xs) (suc kind) hint lt = hint_there xs kind hint (omega arith)
+
+hint_elsewhere : (hints : List ℕ) (kind hint k : ℕ) → k ≢ kind → hint_at (slice_set hints kind hint) k ≡ hint_at hints k
+hint_elsewhere [] kind hint k other = refl
+hint_elsewhere (x ∷ xs) zero hint zero other = absurd (other refl)
+hint_elsewhere (x ∷ xs) zero hint (suc k) other = refl
+hint_elsewhere (x ∷ xs) (suc kind) hint zero other = refl
+hint_elsewhere (x ∷ xs) (suc kind) hint (suc k) other = hint_elsewhere xs kind hint k (λ e. other (ap suc e))
+
+pub hint_set : (old hints : List ℕ) (kind hint : ℕ) → kind < length hints → ((k : ℕ) → hint_at hints k ≡ hint_at old k) → SetsHint old (slice_set hints kind hint) kind hint
+hint_set old hints kind hint lt same = record { set = hint_there hints kind hint lt; others = λ k other. hint_elsewhere hints kind hint k other ∙ same k }
 
 -- ---- the starts that are looked for
 
@@ -113,18 +136,25 @@ waits_as g h set row t same is = (
   λ w. subst (λ s. Waits g s t) is (subst (λ k. Waits k row t) same w),
 )
 
-pub noted_none : (b : Built) (recce : Recognizer) → AreNoted b recce []
+pub noted_none : (b : Built) (recce : Recognizer) → AreNoted b recce none_noted
 noted_none b recce = record { there = λ place starts c. absurd (Contains-none (place, starts) c); are = λ place starts c. absurd (Contains-none (place, starts) c) }
 
-pub noted_later : (b : Built) (old new : Recognizer) (notes : List (ℕ × List ℕ)) → Grows old new → AreNoted b old notes → AreNoted b new notes
+-- the same lists, whatever the hints
+pub noted_same : (b : Built) (recce : Recognizer) (old new : Noted) → new.lists ≡ old.lists → AreNoted b recce old → AreNoted b recce new
+noted_same b recce old new same are = record {
+  there = λ place starts c. are.there place starts (subst (λ l. Contains l (place, starts)) same c);
+  are = λ place starts c. are.are place starts (subst (λ l. Contains l (place, starts)) same c);
+}
+
+pub noted_later : (b : Built) (old new : Recognizer) (notes : Noted) → Grows old new → AreNoted b old notes → AreNoted b new notes
 noted_later b old new notes grows noted = record {
   there = λ place starts c. (let lt = noted.there place starts c in let le = grows.there in omega (arith, lt, le));
   are = λ place starts c. sought_as b (WaitsAt old place) starts (noted.are place starts c) (WaitsAt new place) (λ t. waits_as old.flat new.flat (set_at old place) (set_at new place) t grows.flat (grows.same place (noted.there place starts c)));
 }
 
 -- notes of one place more
-pub noted_more : (b : Built) (recce : Recognizer) (old new : List (ℕ × List ℕ)) (place : ℕ) (starts : List ℕ) → AreNoted b recce old → place < length recce.sets → ((t : ℕ) → WaitsAt recce place t ↔ IsExpected recce t) → AreSought b (IsExpected recce) starts →
-    ((at : ℕ) (list : List ℕ) → Contains new (at, list) → Contains old (at, list) ⊎ ((at ≡ place) × (list ≡ starts))) → AreNoted b recce new
+pub noted_more : (b : Built) (recce : Recognizer) (old new : Noted) (place : ℕ) (starts : List ℕ) → AreNoted b recce old → place < length recce.sets → ((t : ℕ) → WaitsAt recce place t ↔ IsExpected recce t) → AreSought b (IsExpected recce) starts →
+    ((at : ℕ) (list : List ℕ) → Contains new.lists (at, list) → Contains old.lists (at, list) ⊎ ((at ≡ place) × (list ≡ starts))) → AreNoted b recce new
 noted_more b recce old new place starts noted lt alike are adds = record {
   there = λ at list c. elim (adds at list c) [ inl o ↦ noted.there at list o | inr (is, same) ↦ subst (λ p. p < length recce.sets) (sym is) lt ];
   are = λ at list c. elim (adds at list c) [

@@ -7,7 +7,7 @@ ghost use Rattle.reading_model.specs.Matches.{Matches};
 ghost use Rattle.reading_model.specs.Reading.{Piece, IsLongest};
 ghost use Rattle.scanless.specs.Reading.{HoldsPieces};
 ghost use Rattle.prepared_grammars.specs.Gathered.{Gathers};
-ghost use Rattle.scanless.specs.Noted.{AreSought, AreNoted};
+ghost use Rattle.scanless.specs.Noted.{none_noted, AreSought, AreNoted};
 ghost use Rattle.scanless.specs.Pieces.{IsLexerOf, AreMatched, IsLongestBy};
 
 use crate::notes::Notes;
@@ -36,7 +36,7 @@ impl<'p> Work<'p> {
     /// A lexer of its own for the grammar, with nothing tried yet.
     pub fn new(alloc: Global, p: &'p Prepared) -> Result<Work<'p>, AllocError>
         ensures lexer { IfOk result (λ work. IsLexerOf p.now work.lexer) }
-        ensures notes { IfOk result (λ work. work.notes ≡ []) }
+        ensures notes { IfOk result (λ work. work.notes ≡ none_noted) }
     {
         Ok(Work {
             lexer: lexer_of(alloc, p)?,
@@ -51,7 +51,7 @@ impl<'p> Work<'p> {
     #[inline(never)]
     pub fn boxed(alloc: Global, p: &'p Prepared) -> Result<Box<Work<'p>, Global>, AllocError>
         ensures lexer { IfOk result (λ work. IsLexerOf p.now work.value.lexer) }
-        ensures notes { IfOk result (λ work. work.value.notes ≡ []) }
+        ensures notes { IfOk result (λ work. work.value.notes ≡ none_noted) }
     {
         let work = Work::new(alloc, p)?;
         Ok(Box::new(alloc, work)?)

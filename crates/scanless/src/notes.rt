@@ -1,5 +1,6 @@
 //! What is looked for at places so far, so that it is listed once for places that are alike.
-ghost use Rattle.std.specs.Prelude.{◌≡◌, ℕ, ◌⊎◌, [], List, IfSome, Contains};
+ghost use Rattle.std.specs.Prelude.{◌≡◌, ℕ, ◌⊎◌, ◌<◌, List, length, slice_get, IfSome, OnOk, Contains};
+ghost use Rattle.scanless.specs.Noted.{none_noted, hint_at, SetsHint};
 ghost use Rattle.scanless.specs.declared.notes.Note.{Note as ANote};
 
 use earley_sets::Alike;
@@ -21,7 +22,7 @@ pub struct Note {
 }
 
 /// Lists of starts that are looked for, each noted with its place at the number that the recognizer gives to places that are alike. It is
-/// seen as the places, each with its list.
+/// seen as the places, each with its list, and the hints.
 #[derive(Drop)]
 pub struct Notes {
     notes: Vec<Note>,
@@ -33,12 +34,11 @@ pub struct Notes {
 }
 
 impl Model for Notes {
-    ghost use Rattle.std.specs.Prelude.{List, ℕ};
-    ghost use Rattle.scanless.specs.Noted.{told, AreWithin};
+    ghost use Rattle.scanless.specs.Noted.{Noted, told, AreWithin};
 
-    ghost Value = { List (ℕ × List ℕ) };
+    ghost Value = { Noted };
 
-    ghost view = { λ n. told n.lists n.notes.items };
+    ghost view = { λ n. record { lists = told n.lists n.notes.items; hints = n.hints.items } };
 
     ghost invariant = { λ n. AreWithin n.lists n.notes.items };
 }
@@ -65,18 +65,52 @@ fn put_note(notes: &mut Vec<Note>, kind: usize, note: Note) -> Result<(), AllocE
     Ok(())
 }
 
-// Sets a hint, if there is memory for it.
-fn put_hint(hints: &mut Vec<usize>, kind: usize, hint: usize) {
-    if kind >= KINDS || kind >= hints.len() && hints.resize(kind + 1, 0).is_err() {
+fn slot_at(hints: &[usize], place: usize) -> Option<usize>
+    ensures { result ≡ slice_get hints.now place }
+{
+    hints.get(place).copied()
+}
+
+fn hint_of(hints: &[usize], kind: u32) -> usize
+    ensures { result ≡ hint_at hints.now kind }
+{
+    match slot_at(hints, kind as usize) {
+        Some(hint) => hint,
+        None => 0,
+    }
+}
+
+// Makes room for a hint. No hint is changed.
+fn make_room(hints: &mut Vec<usize>, kind: usize) -> Result<(), AllocError>
+    requires { kind < 4096 }
+    ensures same { (k : ℕ) → hint_at hints.new.items k ≡ hint_at hints.old.items k }
+    ensures room { OnOk result (kind < length hints.new.items) }
+{
+    for _ in hints.len()..kind + 1 {
+        hints.push(0)?;
+    }
+    Ok(())
+}
+
+// Sets a hint, if the number is small and there is memory for it.
+fn put_hint(hints: &mut Vec<usize>, kind: u32, hint: usize)
+    ensures { ((k : ℕ) → hint_at hints.new.items k ≡ hint_at hints.old.items k) ⊎
+        SetsHint hints.old.items hints.new.items kind hint }
+{
+    let place = kind as usize;
+    if place >= KINDS {
         return;
     }
-    hints[kind] = hint;
+    let Ok(()) = make_room(hints, place) else {
+        return;
+    };
+    hints[place] = hint;
 }
 
 impl Notes {
     /// Nothing is noted.
     pub fn new(alloc: Global) -> Notes
-        ensures { result ≡ [] }
+        ensures { result ≡ none_noted }
     {
         Notes {
             notes: Vec::new(alloc),
@@ -88,7 +122,7 @@ impl Notes {
 
     /// What is looked for at a place, if it is noted at the number.
     pub fn find(&self, alike: Alike) -> Option<&[u32]>
-        ensures { IfSome result (λ starts. Contains self.now (alike.place, starts.now)) }
+        ensures { IfSome result (λ starts. Contains self.now.lists (alike.place, starts.now)) }
     {
         let note = note_at(&self.notes, alike.kind)?;
         if note.place == alike.place {
@@ -100,8 +134,10 @@ impl Notes {
 
     /// Notes what is looked for at a place, at the number, unless much is noted.
     pub fn put(&mut self, alike: Alike, starts: &[u32]) -> Result<(), AllocError>
-        ensures { (place : ℕ) (list : List ℕ) → Contains self.new (place, list) →
-            Contains self.old (place, list) ⊎ ((place ≡ alike.place) × (list ≡ starts.now)) }
+        ensures lists { (place : ℕ) (list : List ℕ) → Contains self.new.lists (place, list) →
+            Contains self.old.lists (place, list) ⊎
+            ((place ≡ alike.place) × (list ≡ starts.now)) }
+        ensures hints { self.new.hints ≡ self.old.hints }
     {
         let kind = alike.kind as usize;
         if kind >= KINDS || starts.len() > STARTS.saturating_sub(self.count) {
@@ -120,15 +156,19 @@ impl Notes {
         )
     }
 
-    /// Where the lexer found the list at the number last.
-    pub fn hint(&self, kind: u32) -> usize {
-        self.hints.get(kind as usize).copied().unwrap_or(0)
+    /// Where the lexer found the list at the number last; 0 where that is not noted.
+    pub fn hint(&self, kind: u32) -> usize
+        ensures { result ≡ hint_at self.now.hints kind }
+    {
+        hint_of(&self.hints, kind)
     }
 
-    /// Notes where the lexer found the list at the number.
+    /// Notes where the lexer found the list at the number, if the number is small and there is memory for it.
     pub fn put_hint(&mut self, kind: u32, hint: usize)
-        ensures { self.new ≡ self.old }
+        ensures lists { self.new.lists ≡ self.old.lists }
+        ensures hints { ((k : ℕ) → hint_at self.new.hints k ≡ hint_at self.old.hints k) ⊎
+            SetsHint self.old.hints self.new.hints kind hint }
     {
-        put_hint(&mut self.hints, kind as usize, hint);
+        put_hint(&mut self.hints, kind, hint);
     }
 }

@@ -1,4 +1,3 @@
-pub mod Words
-mod Overlaying
-mod Gathering
 mod Telling
+mod Showing
+mod Scanned

@@ -2,14 +2,16 @@
 use Rattle.std.specs.Prelude.{◌≡◌, ℕ, zero, suc, ◌-◌, ◌≤◌, List, [], Option, IfSome, IsSome, chars, length, drop, slice_get}
 use Rattle.grammar_model.specs.declared.Ranking.{Ranking}
 use Rattle.grammar_model.specs.declared.Ranking.TheVariants as ranking
+use Rattle.grammar_model.specs.declared.Show.{Show}
+use Rattle.grammar_model.specs.declared.Show.TheVariants as show
 use Rattle.language_model.specs.Building.{Built}
 use Rattle.text_reading.specs.declared.refusal.Place.{Place}
 use Rattle.text_reading.specs.Refusals.{IsRefusedAt, IsInputRefusedAt, IsNoDerivation}
 use Rattle.slif_parser.specs.declared.error.ParseError.{ParseError}
 use Rattle.slif_parser.specs.Errors.{TellsGrammar, TellsInput}
-use Rattle.slif_c.specs.Copying.{overlaid}
-use Rattle.slif_c.specs.Faults.{code_of, fault_of, message_of, expected_of}
-use Rattle.slif_c.specs.declared.fault.Fault.{Fault}
+use Rattle.c_handles.specs.Copying.{overlaid}
+use Rattle.c_handles.specs.Faults.{code_of, fault_of, message_of, expected_of}
+use Rattle.c_handles.specs.declared.fault.Fault.{Fault}
 
 -- there is something, and P holds of it
 abbrev pub Holds : {X : Type 0} → Option X → (X → Type 0) → Type 0
@@ -20,6 +22,11 @@ abbrev pub ranking_of : ℕ → Ranking
 ranking_of zero = ranking.None
 ranking_of (suc zero) = ranking.Rule
 ranking_of (suc (suc n)) = ranking.High
+
+-- 0 is the value of actions, all else the tree
+abbrev pub show_of : ℕ → Show
+show_of zero = show.Array
+show_of (suc n) = show.Tree
 
 -- REFUSALS
 

@@ -1,6 +1,3 @@
-pub mod Owned
-pub mod Copying
-pub mod Faults
-pub mod Steps
-pub mod Kept
+pub mod Parsed
 pub mod Exports
+pub mod Scans

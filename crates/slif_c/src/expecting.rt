@@ -3,13 +3,12 @@ ghost use Rattle.std.specs.Prelude.{◌≡◌, ◌<◌, None, IfOk, IfErr, IfSom
 ghost use Rattle.text_reading.specs.Refusals.{IsInputRefusedAt};
 ghost use Rattle.slif_parser.specs.declared.error.ParseError.{ParseError as Error};
 ghost use Rattle.slif_parser.specs.Errors.{TellsInput};
-ghost use Rattle.slif_c.specs.Copying.{overlaid};
+ghost use Rattle.c_handles.specs.Copying.{overlaid};
 ghost use Rattle.slif_c.specs.Exports.{IsTold};
-ghost use Rattle.slif_c.specs.Kept.{AreExpectedAfter};
+ghost use Rattle.slif_c.specs.Parsed.{AreExpectedAfter};
 
-use crate::codes::{EMPTY, OK};
-use crate::fault::{copy_numbers, tell};
-use crate::{Fault, GrammarHandle};
+use c_handles::codes::{EMPTY, OK};
+use c_handles::{Fault, GrammarHandle, copy_numbers, tell};
 use slif_parser::{Grammar, ParseError, SymbolId};
 use std::alloc::Global;
 use std::mem;
@@ -92,7 +91,7 @@ pub extern "C" fn slif_expected(
     match mem::replace(grammar, GrammarHandle::empty(alloc)).into_box() {
         None => EMPTY,
         Some(held) => {
-            let code = expect_into(alloc, &held, input, symbols, count, fault, message);
+            let code = expect_into(alloc, held.grammar(), input, symbols, count, fault, message);
             *grammar = GrammarHandle::of(held);
             code
         }

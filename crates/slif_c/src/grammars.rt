@@ -1,29 +1,43 @@
 //! Grammars, as C calls them.
-ghost use Rattle.std.specs.Prelude.{◌≡◌, ◌<◌, ◌≤◌, [], None, IfErr, IfOk, IfSome, length};
+ghost use Rattle.std.specs.Prelude.{◌≡◌, ◌<◌, ◌≤◌, [], None, Some, IfErr, IfOk, IfSome, length};
 ghost use Rattle.grammar_model.specs.Grammar.{lhs_of, rule_at};
 ghost use Rattle.grammar_model.specs.Values.{name_of};
 ghost use Rattle.run_model.specs.Refused.{Accepted};
 ghost use Rattle.text_reading.specs.Refusals.{IsRefusedAt};
 ghost use Rattle.slif_parser.specs.declared.error.ParseError.{ParseError as Error};
 ghost use Rattle.slif_parser.specs.Errors.{TellsGrammar};
-ghost use Rattle.slif_c.specs.Copying.{overlaid};
+ghost use Rattle.c_handles.specs.Copying.{overlaid};
 ghost use Rattle.slif_c.specs.Exports.{Holds, IsTold};
 
-use crate::codes::{EMPTY, OK, RANGE};
-use crate::copying::copy_front;
-use crate::fault::tell;
-use crate::{Fault, GrammarHandle};
-use slif_parser::{Grammar, ParseError, RuleId, SymbolId};
+use c_handles::codes::{EMPTY, NO_MEMORY, OK, RANGE};
+use c_handles::{Fault, GrammarHandle, SharedGrammar, copy_front, tell};
+use slif_parser::{Grammar, NoMemory, ParseError, RuleId, SymbolId};
 use std::alloc::Global;
 use std::mem;
 
+// A grammar for one handle, in a box.
+fn in_box(alloc: Global, grammar: SharedGrammar) -> Result<Box<SharedGrammar, Global>, NoMemory>
+    ensures { IfOk result (λ held. held.value ≡ grammar) }
+{
+    match Box::new(alloc, grammar) {
+        Ok(held) => Ok(held),
+        Err(_) => Err(NoMemory),
+    }
+}
+
+fn first_handle(alloc: Global, grammar: Grammar) -> Result<Box<SharedGrammar, Global>, NoMemory>
+    ensures { IfOk result (λ held. held.value ≡ grammar) }
+{
+    in_box(alloc, SharedGrammar::new(alloc, grammar)?)
+}
+
 // The grammar of a text, in a box.
-fn boxed(alloc: Global, text: &[u8]) -> Result<Box<Grammar, Global>, ParseError>
+fn boxed(alloc: Global, text: &[u8]) -> Result<Box<SharedGrammar, Global>, ParseError>
     ensures accepted { IfOk result (λ held. Accepted text.now held.value) }
     ensures refused { IfErr result (TellsGrammar (IsRefusedAt text.now)) }
 {
     match Grammar::from_text(alloc, text) {
-        Ok(grammar) => match Box::new(alloc, grammar) {
+        Ok(grammar) => match first_handle(alloc, grammar) {
             Ok(held) => Ok(held),
             Err(_) => Err(ParseError::NoMemory),
         },
@@ -63,6 +77,50 @@ pub extern "C" fn slif_grammar_free(alloc: Global, grammar: &mut GrammarHandle)
     *grammar = GrammarHandle::empty(alloc);
 }
 
+// The same grammar for one more handle, in a box.
+fn shared(alloc: Global, grammar: &SharedGrammar) -> Result<Box<SharedGrammar, Global>, NoMemory>
+    ensures { IfOk result (λ held. held.value ≡ grammar.now) }
+{
+    in_box(alloc, grammar.share()?)
+}
+
+fn share_into(alloc: Global, grammar: &SharedGrammar, other: &mut GrammarHandle) -> u32
+    ensures shared { result ≡ 0 → other.new.held ≡ Some grammar.now }
+    ensures kept { 0 < result → (result ≡ 5) × (other.new.held ≡ other.old.held) }
+{
+    match shared(alloc, grammar) {
+        Ok(held) => {
+            *other = GrammarHandle::of(held);
+            OK
+        }
+        Err(_) => NO_MEMORY,
+    }
+}
+
+/// Makes a second handle of a grammar, which another thread may have; what that handle had before is let go. The last handle lets the
+/// grammar go.
+#[unsafe(no_mangle)]
+pub extern "C" fn slif_grammar_share(
+    alloc: Global,
+    grammar: &mut GrammarHandle,
+    other: &mut GrammarHandle,
+) -> u32
+    ensures same { grammar.new.held ≡ grammar.old.held }
+    ensures empty { grammar.old.held ≡ None → result ≡ 6 }
+    ensures shared { result ≡ 0 → other.new.held ≡ grammar.old.held }
+    ensures refused { IfSome grammar.old.held (λ b. 0 < result → result ≡ 5) }
+    ensures kept { 0 < result → other.new.held ≡ other.old.held }
+{
+    match mem::replace(grammar, GrammarHandle::empty(alloc)).into_box() {
+        None => EMPTY,
+        Some(held) => {
+            let code = share_into(alloc, &held, other);
+            *grammar = GrammarHandle::of(held);
+            code
+        }
+    }
+}
+
 /// How many symbols and rules there are.
 #[unsafe(no_mangle)]
 pub extern "C" fn slif_grammar_counts(
@@ -80,8 +138,8 @@ pub extern "C" fn slif_grammar_counts(
     match mem::replace(grammar, GrammarHandle::empty(alloc)).into_box() {
         None => EMPTY,
         Some(held) => {
-            *symbols = held.symbol_count();
-            *rules = held.rule_count();
+            *symbols = held.grammar().symbol_count();
+            *rules = held.grammar().rule_count();
             *grammar = GrammarHandle::of(held);
             OK
         }
@@ -125,7 +183,7 @@ pub extern "C" fn slif_symbol_name(
     match mem::replace(grammar, GrammarHandle::empty(alloc)).into_box() {
         None => EMPTY,
         Some(held) => {
-            let code = name_into(&held, symbol, name, size);
+            let code = name_into(held.grammar(), symbol, name, size);
             *grammar = GrammarHandle::of(held);
             code
         }
@@ -165,7 +223,7 @@ pub extern "C" fn slif_rule_left(
     match mem::replace(grammar, GrammarHandle::empty(alloc)).into_box() {
         None => EMPTY,
         Some(held) => {
-            let code = left_into(&held, rule, left);
+            let code = left_into(held.grammar(), rule, left);
             *grammar = GrammarHandle::of(held);
             code
         }

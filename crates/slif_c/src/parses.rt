@@ -1,17 +1,14 @@
 //! Inputs that are read, as C calls them.
-ghost use Rattle.std.specs.Prelude.{◌≡◌, ◌-◌, ◌<◌, ◌≤◌, None, IfErr, IfOk, IfSome, IsNone, drop, length, slice_get};
+ghost use Rattle.std.specs.Prelude.{◌≡◌, ◌-◌, ◌<◌, ◌≤◌, None, Some, IfErr, IfOk, IfSome, IsNone, drop, length, slice_get};
 ghost use Rattle.slif_parser.specs.declared.error.ParseError.{ParseError as Error};
 ghost use Rattle.slif_parser.specs.Errors.{TellsInput};
-ghost use Rattle.slif_c.specs.Copying.{overlaid};
-ghost use Rattle.slif_c.specs.Exports.{Holds, IsTold, IsUnparsed, ranking_of};
-ghost use Rattle.slif_c.specs.Kept.{IsParsed};
+ghost use Rattle.c_handles.specs.Copying.{overlaid};
+ghost use Rattle.slif_c.specs.Exports.{Holds, IsTold, IsUnparsed, ranking_of, show_of};
+ghost use Rattle.slif_c.specs.Parsed.{IsParsed};
 
-use crate::codes::{EMPTY, OK, RANGE};
-use crate::copying::copy_front;
-use crate::derivations::derive;
-use crate::fault::tell;
-use crate::{Fault, GrammarHandle, Parse, ParseHandle, Step};
-use slif_parser::{Grammar, ParseError, Ranking};
+use c_handles::codes::{EMPTY, OK, RANGE};
+use c_handles::{Fault, GrammarHandle, Parse, ParseHandle, Step, copy_front, derive, tell};
+use slif_parser::{Grammar, ParseError, Ranking, Show};
 use std::alloc::Global;
 use std::mem;
 
@@ -25,21 +22,32 @@ fn ranking_by(number: u32) -> Ranking
     }
 }
 
-// Some derivations of an input.
+// 0 is the value of actions, all else the tree.
+fn show_by(number: u32) -> Show
+    ensures { result ≡ show_of number }
+{
+    match number {
+        0 => Show::Array,
+        _ => Show::Tree,
+    }
+}
+
+// Some derivations of an input, with their lines where they are to be shown.
 fn parse_by(
     alloc: Global,
     grammar: &Grammar,
     input: &[u8],
     ranking: Ranking,
+    shown: Option<Show>,
     skip: u64,
     most: u64,
 ) -> Result<Parse, ParseError>
-    ensures parsed { IfOk result (IsParsed grammar.now input.now ranking skip most) }
+    ensures parsed { IfOk result (IsParsed grammar.now input.now ranking shown skip most) }
     ensures refused { IfErr result (TellsInput (IsUnparsed grammar.now ranking input.now)) }
 {
     match grammar.read(alloc, input) {
         Ok(reading) => {
-            let told = derive(alloc, &reading, ranking, skip, most);
+            let told = derive(alloc, &reading, ranking, shown, skip, most);
             drop(reading);
             told
         }
@@ -53,14 +61,15 @@ fn boxed(
     grammar: &Grammar,
     input: &[u8],
     ranking: Ranking,
+    shown: Option<Show>,
     skip: u64,
     most: u64,
 ) -> Result<Box<Parse, Global>, ParseError>
-    ensures parsed { IfOk result (λ held. IsParsed grammar.now input.now ranking skip most
+    ensures parsed { IfOk result (λ held. IsParsed grammar.now input.now ranking shown skip most
         held.value) }
     ensures refused { IfErr result (TellsInput (IsUnparsed grammar.now ranking input.now)) }
 {
-    match parse_by(alloc, grammar, input, ranking, skip, most) {
+    match parse_by(alloc, grammar, input, ranking, shown, skip, most) {
         Ok(parse) => match Box::new(alloc, parse) {
             Ok(held) => Ok(held),
             Err(_) => Err(ParseError::NoMemory),
@@ -75,6 +84,7 @@ fn parse_into(
     grammar: &Grammar,
     input: &[u8],
     ranking: Ranking,
+    shown: Option<Show>,
     skip: u64,
     most: u64,
     parse: &mut ParseHandle,
@@ -83,7 +93,7 @@ fn parse_into(
     expected: &mut [u32],
 ) -> u32
     ensures parsed { result ≡ 0 →
-        Holds parse.new.held (IsParsed grammar.now input.now ranking skip most) }
+        Holds parse.new.held (IsParsed grammar.now input.now ranking shown skip most) }
     ensures untold { result ≡ 0 → (fault.new ≡ fault.old) × (message.new ≡ message.old) ×
         (expected.new ≡ expected.old) }
     ensures refused { 0 < result → (error : Error) ×
@@ -91,7 +101,7 @@ fn parse_into(
         IsTold error result fault.old fault.new message.old message.new expected.old expected.new }
     ensures kept { 0 < result → parse.new.held ≡ parse.old.held }
 {
-    match boxed(alloc, grammar, input, ranking, skip, most) {
+    match boxed(alloc, grammar, input, ranking, shown, skip, most) {
         Ok(held) => {
             *parse = ParseHandle::of(held);
             OK
@@ -118,7 +128,7 @@ pub extern "C" fn slif_parse_new(
     ensures empty { grammar.old.held ≡ None → (result ≡ 6) × (fault.new ≡ fault.old) ×
         (message.new ≡ message.old) × (expected.new ≡ expected.old) }
     ensures parsed { IfSome grammar.old.held (λ b. result ≡ 0 →
-        Holds parse.new.held (IsParsed b input.now (ranking_of ranking) skip most)) }
+        Holds parse.new.held (IsParsed b input.now (ranking_of ranking) None skip most)) }
     ensures untold { IfSome grammar.old.held (λ b. result ≡ 0 → (fault.new ≡ fault.old) ×
         (message.new ≡ message.old) × (expected.new ≡ expected.old)) }
     ensures refused { IfSome grammar.old.held (λ b. 0 < result → (error : Error) ×
@@ -131,9 +141,59 @@ pub extern "C" fn slif_parse_new(
         Some(held) => {
             let code = parse_into(
                 alloc,
-                &held,
+                held.grammar(),
                 input,
                 ranking_by(ranking),
+                None,
+                skip,
+                most,
+                parse,
+                fault,
+                message,
+                expected,
+            );
+            *grammar = GrammarHandle::of(held);
+            code
+        }
+    }
+}
+
+/// The same as `slif_parse_new`, and of each derivation that is kept its line is kept too.
+#[unsafe(no_mangle)]
+pub extern "C" fn slif_parse_shown(
+    alloc: Global,
+    grammar: &mut GrammarHandle,
+    input: &[u8],
+    ranking: u32,
+    show: u32,
+    skip: u64,
+    most: u64,
+    parse: &mut ParseHandle,
+    fault: &mut Fault,
+    message: &mut [u8],
+    expected: &mut [u32],
+) -> u32
+    ensures same { grammar.new.held ≡ grammar.old.held }
+    ensures empty { grammar.old.held ≡ None → (result ≡ 6) × (fault.new ≡ fault.old) ×
+        (message.new ≡ message.old) × (expected.new ≡ expected.old) }
+    ensures parsed { IfSome grammar.old.held (λ b. result ≡ 0 → Holds parse.new.held
+        (IsParsed b input.now (ranking_of ranking) (Some (show_of show)) skip most)) }
+    ensures untold { IfSome grammar.old.held (λ b. result ≡ 0 → (fault.new ≡ fault.old) ×
+        (message.new ≡ message.old) × (expected.new ≡ expected.old)) }
+    ensures refused { IfSome grammar.old.held (λ b. 0 < result → (error : Error) ×
+        TellsInput (IsUnparsed b (ranking_of ranking) input.now) error × IsTold error result
+        fault.old fault.new message.old message.new expected.old expected.new) }
+    ensures kept { 0 < result → parse.new.held ≡ parse.old.held }
+{
+    match mem::replace(grammar, GrammarHandle::empty(alloc)).into_box() {
+        None => EMPTY,
+        Some(held) => {
+            let code = parse_into(
+                alloc,
+                held.grammar(),
+                input,
+                ranking_by(ranking),
+                Some(show_by(show)),
                 skip,
                 most,
                 parse,
@@ -243,6 +303,50 @@ pub extern "C" fn slif_parse_steps(
         None => EMPTY,
         Some(held) => {
             let code = steps_into(&held, derivation, from, steps, count);
+            *parse = ParseHandle::of(held);
+            code
+        }
+    }
+}
+
+fn line_into(parse: &Parse, derivation: u64, line: &mut [u8], size: &mut usize) -> u32
+    ensures line { IfSome (slice_get parse.now.lines.items derivation) (λ text. (result ≡ 0) ×
+        (line.new ≡ overlaid text.items line.old) × (size.new ≡ length text.items)) }
+    ensures range { IsNone (slice_get parse.now.lines.items derivation) → result ≡ 7 }
+    ensures untold { 0 < result → (line.new ≡ line.old) × (size.new ≡ size.old) }
+{
+    match parse.lines.get(derivation as usize) {
+        Some(text) => {
+            copy_front(text, line);
+            *size = text.len();
+            OK
+        }
+        None => RANGE,
+    }
+}
+
+/// Copies the line of a derivation, as much of it as there is room for, and tells its length.
+#[unsafe(no_mangle)]
+pub extern "C" fn slif_parse_line(
+    alloc: Global,
+    parse: &mut ParseHandle,
+    derivation: u64,
+    line: &mut [u8],
+    size: &mut usize,
+) -> u32
+    ensures same { parse.new.held ≡ parse.old.held }
+    ensures empty { parse.old.held ≡ None → result ≡ 6 }
+    ensures line { IfSome parse.old.held (λ p. IfSome (slice_get p.lines.items derivation)
+        (λ text. (result ≡ 0) × (line.new ≡ overlaid text.items line.old) ×
+        (size.new ≡ length text.items))) }
+    ensures range { IfSome parse.old.held (λ p.
+        IsNone (slice_get p.lines.items derivation) → result ≡ 7) }
+    ensures untold { 0 < result → (line.new ≡ line.old) × (size.new ≡ size.old) }
+{
+    match mem::replace(parse, ParseHandle::empty(alloc)).into_box() {
+        None => EMPTY,
+        Some(held) => {
+            let code = line_into(&held, derivation, line, size);
             *parse = ParseHandle::of(held);
             code
         }

@@ -5,3 +5,4 @@ mod Differing
 mod Ruled
 mod Clipping
 mod Cursors
+mod Showing

@@ -3,3 +3,4 @@ pub mod Messages
 pub mod Views
 pub mod Readings
 pub mod Rules
+pub mod Shown

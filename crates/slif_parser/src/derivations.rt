@@ -1,5 +1,5 @@
 //! The derivations of an input, one after another.
-ghost use Rattle.std.specs.Prelude.{◌≡◌, ◌<◌, ◌++◌, [], List, length, map, IfOk, IfErr, OnOk, OnErr, IfSome, IsSome, IsNone, IsFalse, IsTrue};
+ghost use Rattle.std.specs.Prelude.{◌≡◌, ◌<◌, ◌++◌, [], List, length, map, Some, IfOk, IfErr, OnOk, OnErr, IfSome, IsSome, IsNone, IsFalse, IsTrue};
 ghost use Rattle.grammar_model.specs.Trees.{Tree};
 ghost use Rattle.grammar_core.specs.Steps.{step_of};
 ghost use Rattle.grammar_model.specs.Steps.{steps_of};
@@ -8,9 +8,11 @@ ghost use Rattle.cursor_model.specs.Laid.{Spells};
 ghost use Rattle.tree_iter.specs.Iteration.{AreGiven, HasNone, IsAnswer, at_steps, between, begun};
 ghost use Rattle.text_reading.specs.Parts.{HasForest};
 ghost use Rattle.tree_fold.specs.Failing.{IsFailure};
+ghost use Rattle.slif_parser.specs.Shown.{shown_line};
 ghost use Rattle.slif_parser.specs.Readings.{IsAt, IsNext, IsPrefixOfAll, LacksCursor, ValueBy, FailsBy, IsAskedBy};
 
-use crate::{FoldError, NoMemory, Semantics, Span, SymbolId, TreeStep};
+use crate::lines::append_shown;
+use crate::{FoldError, NoMemory, Semantics, Show, Span, SymbolId, TreeStep};
 use scanless::Prepared;
 use slif_base::{Chars, Steps};
 use std::alloc::{AllocError, Global};
@@ -173,6 +175,25 @@ impl<'f> Derivations<'f> {
         ensures err { OnErr result (out.new.items ≡ out.old.items) }
     {
         write_cursor(self.iter.current_steps(), out)
+    }
+
+    /// Appends the line of the current derivation: its value, as the program `slif` shows it, and a line feed.
+    pub fn append_line(&self, alloc: Global, show: Show, line: &mut Vec<u8>) -> Result<(), NoMemory>
+        requires { IsSome self.now.iteration.current }
+        ensures ok { (t : Tree) → self.now.iteration.current ≡ Some (steps_of t) →
+            OnOk result (line.new.items ≡ line.old.items ++ shown_line self.now.read show t) }
+        ensures err { OnErr result (line.new.items ≡ line.old.items) }
+    {
+        self.prepared.known();
+        append_shown(
+            alloc,
+            self.prepared,
+            self.chars,
+            self.spans,
+            self.iter.current_steps(),
+            show,
+            line,
+        )
     }
 
     /// Goes to the derivation that has this cursor, and answers whether there is one; `next` goes on after it. Nothing before it is listed.

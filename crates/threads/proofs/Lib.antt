@@ -5,3 +5,4 @@ pub mod Closing
 pub mod Folding
 pub mod Goals
 pub mod Parts
+pub mod Searching

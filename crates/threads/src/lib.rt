@@ -8,6 +8,7 @@ mod order;
 mod part;
 mod row;
 mod scan;
+mod terminals;
 
 pub use fold::{is_start, next_symbol};
 pub use lists::Lists;

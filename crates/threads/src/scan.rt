@@ -11,6 +11,7 @@ use crate::fold::next_symbol;
 use crate::lists::Lists;
 use crate::order::list_ordered;
 use crate::part::label_for;
+use crate::terminals::{Terminals, terminals_of};
 use grammar_core::{Flat, SymbolId};
 use recognizer_model::{FlatSymbol, Label, Thread};
 use std::alloc::{AllocError, Global};
@@ -28,7 +29,7 @@ pub fn advanced(thread: Thread, label: Option<Label>) -> Thread
 }
 
 // Whether the thread waits for one of the terminals.
-fn is_read(flat: &Flat, thread: Thread, terminals: &[SymbolId]) -> bool
+fn is_read(flat: &Flat, thread: Thread, terminals: &Terminals<'_>) -> bool
     requires { IsRule flat.now thread.rule }
     ensures read { IsTrue result ↔
         ((x : ℕ) × (next flat.now thread ≡ Some x) × IsReadBy flat.now terminals.now x) }
@@ -37,7 +38,7 @@ fn is_read(flat: &Flat, thread: Thread, terminals: &[SymbolId]) -> bool
     match next_symbol(flat, thread) {
         None => false,
         Some(x) => match flat.symbol(x) {
-            FlatSymbol::Terminal(t) => terminals.contains(&t),
+            FlatSymbol::Terminal(t) => terminals.has(t),
             _ => false,
         },
     }
@@ -72,7 +73,7 @@ fn label_behind(
 }
 
 // Whether a thread begins in its row and waits for one of the terminals.
-fn is_read_here(flat: &Flat, thread: Thread, terminals: &[SymbolId]) -> bool
+fn is_read_here(flat: &Flat, thread: Thread, terminals: &Terminals<'_>) -> bool
     requires { IsRule flat.now thread.rule }
     ensures { ¬ IsTrue result → (x : ℕ) → thread.label ≡ None → next flat.now thread ≡ Some x →
         ¬ IsReadBy flat.now terminals.now x }
@@ -81,7 +82,7 @@ fn is_read_here(flat: &Flat, thread: Thread, terminals: &[SymbolId]) -> bool
 }
 
 // Whether a thread that begins in a row waits for one of the terminals.
-fn is_read_at_begin(flat: &Flat, row: &[Thread], terminals: &[SymbolId]) -> bool
+fn is_read_at_begin(flat: &Flat, row: &[Thread], terminals: &Terminals<'_>) -> bool
     requires { (th : AThread) → Contains row.now th → IsRule flat.now th.rule }
     ensures { ¬ IsTrue result → (th : AThread) (x : ℕ) → Contains row.now th → th.label ≡ None →
         next flat.now th ≡ Some x → ¬ IsReadBy flat.now terminals.now x }
@@ -99,7 +100,7 @@ fn list_ordered_for(
     alloc: Global,
     flat: &Flat,
     row: &[Thread],
-    terminals: &[SymbolId],
+    terminals: &Terminals<'_>,
 ) -> Result<Vec<Thread>, AllocError>
     requires { (th : AThread) → Contains row.now th → IsRule flat.now th.rule }
     ensures { IfOk result (λ ordered. (th : AThread) (x : ℕ) → Contains row.now th →
@@ -120,7 +121,7 @@ fn list_seeds(
     parts: &mut Lists,
     row: &[Thread],
     ordered: &[Thread],
-    terminals: &[SymbolId],
+    terminals: &Terminals<'_>,
     seeds: &mut Vec<Thread>,
 ) -> Result<(), AllocError>
     requires parts { AreParts flat.now parts.old }
@@ -144,6 +145,29 @@ fn list_seeds(
     Ok(())
 }
 
+// Lists what a row leads to by terminals.
+fn scan_by(
+    alloc: Global,
+    flat: &Flat,
+    parts: &mut Lists,
+    row: &[Thread],
+    terminals: &Terminals<'_>,
+    seeds: &mut Vec<Thread>,
+) -> Result<(), AllocError>
+    requires parts { AreParts flat.now parts.old }
+    requires row { AreThreads flat.now (length parts.old) row.now }
+    ensures grown { IsGrown parts.old parts.new }
+    ensures parts { AreParts flat.now parts.new }
+    ensures threads { OnOk result (AreThreads flat.now (length parts.new) seeds.new.items) }
+    ensures seeds { OnOk result ((later : List (List AThread)) → IsGrown parts.new later →
+        AreSeeds flat.now later (IsReadBy flat.now terminals.now) row.now row.now seeds.new.items) }
+{
+    let ordered = list_ordered_for(alloc, flat, row, terminals)?;
+    let listed = list_seeds(alloc, flat, parts, row, &ordered, terminals, seeds);
+    drop(ordered);
+    listed
+}
+
 /// Lists what a row leads to by terminals.
 pub fn scan(
     alloc: Global,
@@ -161,8 +185,6 @@ pub fn scan(
     ensures seeds { OnOk result ((later : List (List AThread)) → IsGrown parts.new later →
         AreSeeds flat.now later (IsReadBy flat.now terminals.now) row.now row.now seeds.new.items) }
 {
-    let ordered = list_ordered_for(alloc, flat, row, terminals)?;
-    let listed = list_seeds(alloc, flat, parts, row, &ordered, terminals, seeds);
-    drop(ordered);
-    listed
+    let terminals = terminals_of(terminals);
+    scan_by(alloc, flat, parts, row, &terminals, seeds)
 }

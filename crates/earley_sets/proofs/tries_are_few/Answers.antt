@@ -1,6 +1,6 @@
 use Rattle.recognizer_model.specs.Links.{IsLink}
 use Rattle.earley_sets.specs.Recognizer.{edges_of, top_of}
-use Rattle.earley_sets.proofs.Rising.{different_are_few}
+use Rattle.begun_lists.proofs.Rising.{different_are_few}
 use Rattle.earley_sets.proofs.tries_are_few.Goals as goal
 
 pub returns : goal.returns

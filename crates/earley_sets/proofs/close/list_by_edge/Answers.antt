@@ -1,6 +1,6 @@
 use Rattle.std.proofs.lemmas.Result.{on_ok_weaker}
 use Rattle.earley_sets.specs.Tried.{AwaitsEdge}
-use Rattle.earley_sets.proofs.Rising.{rises_as}
+use Rattle.begun_lists.proofs.Rising.{rises_as}
 use Rattle.earley_sets.proofs.Scanning.{has_scanned}
 use Rattle.earley_sets.proofs.close.list_by_edge.Goals as goal
 

@@ -1,5 +1,6 @@
 use Rattle.std.proofs.Common.{length, take}
-use Rattle.earley_sets.specs.Tried.{RisesWithin, MakesScan}
+use Rattle.begun_lists.specs.Tried.{RisesWithin}
+use Rattle.earley_sets.specs.Tried.{MakesScan}
 use Rattle.earley_sets.proofs.Scanning.{ListedTo}
 use Rattle.earley_sets.proofs.close.list_scanned.Given as goal
 

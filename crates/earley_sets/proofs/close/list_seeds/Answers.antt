@@ -1,6 +1,7 @@
 use Rattle.std.proofs.Common.{inl, inr, length, subst}
 use Rattle.std.proofs.lemmas.Result.{on_ok_weaker}
-use Rattle.earley_sets.specs.Tried.{RisesWithin, MakesScan}
+use Rattle.begun_lists.specs.Tried.{RisesWithin}
+use Rattle.earley_sets.specs.Tried.{MakesScan}
 use Rattle.earley_sets.proofs.close.list_seeds.Goals as goal
 
 pub returns-clause-listed : goal.returns-clause-listed

@@ -3,8 +3,11 @@ use Rattle.std.proofs.lemmas.Result.{on_ok_weaker}
 use Rattle.recognizer_model.specs.declared.Pair.{Pair}
 use Rattle.earley_sets.specs.Tried.{MakesLink}
 use Rattle.earley_sets.proofs.Following.{goes_skipped, goes_done, goes_nowhere}
-use Rattle.earley_sets.proofs.Rising.{rises_none}
+use Rattle.begun_lists.proofs.Rising.{rises_none}
 use Rattle.earley_sets.proofs.Trying.{links_skipped, links_done}
+use Rattle.earley_sets.proofs.Twice.{told, twice_by_pair, waiting_never, late_never}
+use Rattle.recognizer_model.specs.Flat.{rhs_of}
+use Rattle.finite_sets.proofs.Lists.{get_end}
 use Rattle.earley_sets.proofs.follow.list_next.Goals as goal
 
 pub list_skipped-requires-clause-symbol : goal.list_skipped-requires-clause-symbol
@@ -39,3 +42,16 @@ returns-then-item-earleme-clause-links g c =
 
 pub returns-else-item-earleme-clause-links : goal.returns-else-item-earleme-clause-links
 returns-else-item-earleme-clause-links g c = rises_none (MakesLink c.args.flat.now c.args.rows.now.sets c.args.earleme c.args.item) (length c.args.next.now.items) (length c.args.next.now.items) refl
+
+pub returns-then-item-earleme-clause-twice : goal.returns-then-item-earleme-clause-twice
+returns-then-item-earleme-clause-twice g c =
+    told c.list_done.result
+    (twice_by_pair c.args.flat.now c.args.rows.now.sets c.args.earleme c.args.item c.requires.rows.are (get_end (rhs_of c.args.flat.now c.args.item.rule) c.args.item.dot c.requires.item.within (sym c.in-None.ensures.value)) c.if-item-earleme.true
+    c.pair_above.result c.pair_above.ensures)
+    c.list_done.ensures.twice
+
+pub returns-in_ok-list_skipped-in-Some-clause-twice : goal.returns-in_ok-list_skipped-in-Some-clause-twice
+returns-in_ok-list_skipped-in-Some-clause-twice g c = waiting_never c.args.flat.now c.args.rows.now.sets c.args.earleme c.args.item c.in-Some.x (sym c.in-Some.ensures.value)
+
+pub returns-else-item-earleme-clause-twice : goal.returns-else-item-earleme-clause-twice
+returns-else-item-earleme-clause-twice g c = late_never c.args.flat.now c.args.rows.now.sets c.args.earleme c.args.item c.if-item-earleme.false

@@ -19,7 +19,7 @@ push-requires-clause-items c item among =
 -- the only row has these items, since the list that it shares is empty
 pub leo_of-step-requires : goal.leo_of-step-requires
 leo_of-step-requires c item among =
-    let (row, is, list) = c.in_ok-push.ensures.ok in
+    let (row, kind, is, list) = c.in_ok-push.ensures.ok in
     let (flat_is, sets_is, shared_is) = c.in_ok-rows.ensures in
     let here : c.row.result ≡ row = c.row.ensures ∙ ap (λ (r : ItemRows). row_at r.sets 0) is ∙ ap (λ (sets : List (List Item)). row_at (sets ++ row ∷ []) 0) sets_is in
     elim ((list.exact item).0 (subst (λ (l : List Item). Contains l item) here among)) [

@@ -2,7 +2,7 @@ use Rattle.std.proofs.Common.{rules, of_calls, arith}
 use Rattle.std.specs.Prelude.{nat_lt}
 use Rattle.std.proofs.lemmas.Fn.{always_returns_same}
 use Rattle.std.proofs.lemmas.Bool.{ltb-true, ltb-false}
-use Rattle.item_rows.proofs.Packing.{below_parted}
+use Rattle.shared_lists.proofs.Parted.{below_parted}
 use Rattle.item_rows.proofs.packed.count_below.Goals as goal
 
 pub returns-else-packed-le-FEW : goal.returns-else-packed-le-FEW

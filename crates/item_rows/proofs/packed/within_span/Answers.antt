@@ -1,6 +1,6 @@
 use Rattle.std.proofs.Common.{ℕ, sym, subst, List, Contains, arith}
 use Rattle.kernels.specs.Slots.{Rises}
-use Rattle.item_rows.proofs.Packing.{part_order, part_exact, part_rises}
+use Rattle.shared_lists.proofs.Parted.{part_order, part_exact, part_rises}
 use Rattle.item_rows.proofs.packed.within_span.Goals as goal
 
 pub count_below_from-end-requires-clause-below : goal.count_below_from-end-requires-clause-below

@@ -5,4 +5,4 @@ use Rattle.leo_items.specs.Closed.{IsClosedTo}
 use Rattle.leo_items.proofs.hidden.add_steps.Given as goal
 
 abbrev pub invariant-loop-k : goal.invariant-loop-k
-invariant-loop-k l = IsClosedTo l.flat (IsSingleStep l.flat l.rows.sets l.earleme l.from) l.initial.set.keys l.set.keys l.k × ((more : List Item) × (l.set.keys ≡ l.initial.set.keys ++ more))
+invariant-loop-k l = IsClosedTo l.flat (IsSingleStep l.flat l.rows.sets l.earleme l.from) l.initial.set l.set l.k × ((more : List Item) × (l.set ≡ l.initial.set ++ more))

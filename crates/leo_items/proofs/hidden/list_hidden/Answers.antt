@@ -8,7 +8,6 @@ use Rattle.item_rows.specs.Rows.{row_at}
 use Rattle.item_rows.proofs.Viewing.{whole_over}
 use Rattle.leo_items.specs.Closed.{IsReached}
 use Rattle.leo_items.specs.Hidden.{IsSingleStep, IsHiddenIn}
-use Rattle.leo_items.proofs.Adding.{all_differ}
 use Rattle.leo_items.proofs.Hiding.{whole_from, hidden_listed, none_hidden}
 use Rattle.leo_items.proofs.hidden.list_hidden.Goals as goal
 
@@ -28,15 +27,15 @@ add_steps-requires-clause-items c item h = (c.requires.rows.are c.args.earleme).
 pub returns : goal.returns
 returns c =
     let (more, e) = c.in_ok-add_steps.ensures.begins in
-    let kept = c.put_from.new.set.keys in
+    let kept = c.put_from.new.set in
     IfOk-weaker c.list_behind-behind.result _ _
     (λ v is.
-    let same : v.items ≡ more = is ∙ (ap (λ (l : List Item). drop c.len-kept.result l) (c.as_slice.ensures.keys ∙ e) ∙ (ap (λ n. drop n (kept ++ more)) c.len-kept.ensures.len ∙ drop-append_seam kept more)) in
+    let same : v.items ≡ more = is ∙ (ap (λ (l : List Item). drop c.len-kept.result l) (c.as_slice.ensures.items ∙ e) ∙ (ap (λ n. drop n (kept ++ more)) c.len-kept.ensures.len ∙ drop-append_seam kept more)) in
     subst (λ (l : List Item). IsListOf (IsHiddenIn c.args.flat.now c.args.rows.now.sets c.args.earleme c.args.from) l) (sym same)
     (hidden_listed c.args.flat.now c.args.rows.now.sets c.requires.rows.are c.args.earleme c.args.from kept more
     (whole_from c.args.flat.now c.args.from (row_at c.args.rows.now.sets c.args.earleme) c.whole-whole.result kept
     (whole_over c.args.rows.now c.args.flat.now (row_at c.args.rows.now.sets c.args.earleme) c.whole-whole.result c.requires.rows.flat c.whole-whole.ensures)
     c.in_ok-put_from.ensures)
     (λ item. subst (λ (l : List Item). Contains l item ↔ IsReached (IsSingleStep c.args.flat.now c.args.rows.now.sets c.args.earleme c.args.from) kept item) e (c.in_ok-add_steps.ensures.closed item))
-    (subst (λ (l : List Item). AllPairs (λ x y. x ≢ y) l) e (all_differ c.add_steps.new.set.keys c.as_slice.ensures.unique))))
+    (subst (λ (l : List Item). AllPairs (λ x y. x ≢ y) l) e c.as_slice.ensures.once)))
     c.list_behind-behind.ensures

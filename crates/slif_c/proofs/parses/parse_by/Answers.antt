@@ -1,12 +1,13 @@
 use Rattle.std.proofs.Common.{[]}
-use Rattle.std.proofs.lemmas.Result.{IfOk-weaker}
 use Rattle.text_reading.specs.Refusals.{IsInputRefusedAt, IsNoDerivation}
 use Rattle.slif_c.specs.Exports.{IsUnparsed, NotRead}
+use Rattle.slif_c.proofs.Showing.{parsed}
 use Rattle.slif_c.proofs.Telling.{not_derived, told_as, told_of}
 use Rattle.slif_c.proofs.parses.parse_by.Goals as goal
 
 pub returns-in-Ok-clause-parsed : goal.returns-in-Ok-clause-parsed
-returns-in-Ok-clause-parsed c = IfOk-weaker c.derive-told.result _ _ (λ parse some. (c.in-Ok.reading, c.in-Ok.ensures.read, some)) c.derive-told.ensures.some
+returns-in-Ok-clause-parsed c =
+    parsed c.args.grammar.now c.args.input.now c.in-Ok.reading c.in-Ok.ensures.read c.args.ranking c.args.shown c.args.skip c.args.most c.derive-told.result c.derive-told.ensures.some
 
 pub returns-in-Ok-clause-refused : goal.returns-in-Ok-clause-refused
 returns-in-Ok-clause-refused c =

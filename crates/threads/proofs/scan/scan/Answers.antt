@@ -1,10 +1,11 @@
-use Rattle.std.proofs.Common.{List, sym, subst}
+use Rattle.std.proofs.Common.{ℕ, List, subst}
+use Rattle.std.specs.Prelude.{OnOk}
 use Rattle.recognizer_model.specs.declared.thread.Thread.{Thread}
-use Rattle.threads.specs.Order.{IsOrderOf}
+use Rattle.threads.specs.Lists.{IsGrown}
+use Rattle.threads.specs.Steps.{IsReadBy, AreSeeds}
 use Rattle.threads.proofs.scan.scan.Goals as goal
 
-pub list_ordered_for-requires : goal.list_ordered_for-requires
-list_ordered_for-requires c th h = (c.requires.row th h).is_rule
-
-pub list_seeds-listed-requires-clause-order : goal.list_seeds-listed-requires-clause-order
-list_seeds-listed-requires-clause-order c th x h none e reads = subst (λ (l : List Thread). IsOrderOf c.args.flat.now c.args.row.now l) (sym c.deref.ensures.value) (c.in_ok-ordered.ensures th x h none e reads)
+pub returns-clause-seeds : goal.returns-clause-seeds
+returns-clause-seeds c =
+    subst (λ (ts : List ℕ). OnOk c.scan_by.result ((later : List (List Thread)) → IsGrown c.scan_by.new.parts later → AreSeeds c.args.flat.now later (IsReadBy c.args.flat.now ts) c.args.row.now c.args.row.now c.scan_by.new.seeds.items))
+    c.terminals_of-terminals.ensures c.scan_by.ensures.seeds

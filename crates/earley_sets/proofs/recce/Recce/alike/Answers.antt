@@ -5,9 +5,6 @@ use Rattle.expected_terminals.proofs.Expecting.{place_there, place_waits}
 use Rattle.earley_sets.proofs.Recognizing.{listed_expected}
 use Rattle.earley_sets.proofs.recce.Recce.alike.Goals as goal
 
-pub kind-kind-requires : goal.kind-kind-requires
-kind-kind-requires c = let some = c.self.invariant.0.is.some in let l = c.len-last.ensures in omega arith
-
 pub returns-clause-place : goal.returns-clause-place
 returns-clause-place c =
     let told : c.place_alike-place.result ≡ place_told (length c.self.inside.rows.sets - 1) c.self.inside.expected.last = c.place_alike-place.ensures ∙ ap (λ n. place_told (n - 1) c.self.inside.expected.last) c.len-last.ensures in

@@ -1,4 +1,4 @@
-use Rattle.std.proofs.Common.{List, sym, subst}
+use Rattle.std.proofs.Common.{◌++◌, ◌∷◌, [], ◌∙◌, Bool, false, true≢false, List, slice_get, ap, sym, subst}
 use Rattle.finite_sets.proofs.Lists.{got_at}
 use Rattle.grammar_model.specs.declared.Edge.{Edge as HeldEdge}
 use Rattle.grammar_model.specs.Derives.{Held}
@@ -7,6 +7,7 @@ use Rattle.recognizer_model.specs.FlatForm.{FlatEdges}
 use Rattle.recognizer_model.specs.Leo.{InReduced}
 use Rattle.expected_terminals.proofs.Expecting.{no_notes, one_row}
 use Rattle.earley_sets.proofs.Recognizing.{first_kept, top_is_top}
+use Rattle.earley_sets.proofs.Twice.{first_notes}
 use Rattle.earley_sets.proofs.recce.Recce.new.Goals as goal
 
 pub first_rows-requires-clause-top : goal.first_rows-requires-clause-top
@@ -22,6 +23,8 @@ invariant_of-result c =
       c.in_ok-rows.ensures.flat,
       c.in_ok-rows.ensures.lists,
       c.expect_row.ensures,
+      first_notes c.args.flat.now c.in_ok-rows.rows.sets kept c.push.new.self.items rows false
+          (ap (λ (l : List Bool). slice_get l 0) (c.in_ok-push.ensures.items ∙ ap (λ (l : List Bool). l ++ false ∷ []) c.new-hiding.ensures.items)) (λ t. true≢false (sym t)),
     )
 
 pub expect_row-requires-clause-flat : goal.expect_row-requires-clause-flat

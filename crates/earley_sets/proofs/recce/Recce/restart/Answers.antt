@@ -1,10 +1,11 @@
 use Rattle.std.proofs.Common.{◌∙◌, ◌∷◌, [], List, ap, sym, subst}
 use Rattle.recognizer_model.specs.declared.Item.{Item}
 use Rattle.item_rows.specs.Rows.{ItemRows, row_at}
-use Rattle.earley_sets.specs.Begun.{AreLists}
+use Rattle.begun_lists.specs.Met.{AreFound}
 use Rattle.earley_sets.specs.Recognizer.{Recognizer, set_at}
 use Rattle.expected_terminals.proofs.Expecting.{no_notes, one_row, room_stays}
 use Rattle.earley_sets.proofs.Recognizing.{first_there, restarted}
+use Rattle.earley_sets.proofs.Twice.{first_again}
 use Rattle.earley_sets.proofs.recce.Recce.restart.Goals as goal
 
 pub keep_first-requires : goal.keep_first-requires
@@ -16,8 +17,11 @@ invariant_of-self c = (
       (ap (λ (r : ItemRows). r.sets) c.keep_first.ensures) c.clear.ensures,
   c.self.invariant.1,
   ap (λ (r : ItemRows). r.flat) c.keep_first.ensures ∙ c.self.invariant.2,
-  subst (λ (l : List (List Item)). AreLists c.self.inside.flat.now l c.self.inside.lists.numbers.entries) (sym (ap (λ (r : ItemRows). r.shared) c.keep_first.ensures)) c.self.invariant.3,
+  subst (λ (l : List (List Item)). AreFound c.self.inside.flat.now l c.self.inside.lists) (sym (ap (λ (r : ItemRows). r.shared) c.keep_first.ensures)) c.self.invariant.3,
   c.expect_row.ensures,
+  first_again c.self.inside.flat.now c.self.inside.rows.sets c.self.inside.hiding.items c.self.invariant.5
+      (first_there c.self.inside.flat.now c.self.inside.start c.self.inside.edges c.self.inside.rows.sets c.self.inside.top c.self.inside.memo c.self.invariant.0)
+      c.keep_first.new.self.sets (row_at c.self.inside.rows.sets 0) (ap (λ (r : ItemRows). r.sets) c.keep_first.ensures) c.truncate.new.self.items c.truncate.ensures.items,
 )
 
 pub expect_row-requires-clause-flat : goal.expect_row-requires-clause-flat

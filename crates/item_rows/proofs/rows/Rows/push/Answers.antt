@@ -15,13 +15,13 @@ pack_row-requires-clause-items c = subst (λ (r : ItemRows). AreItems r.flat c.a
 pub invariant_of-self-2 : goal.invariant_of-self-2
 invariant_of-self-2 c =
     subst (λ (k : List Kernel). AreHeld c.self.inside.dotted.rules c.self.inside.lists k c.in_ok-count.count)
-    (sym (c.in_ok-push.ensures.ok ∙ ap (λ (l : List ℕ). c.self.inside.kernels ++ (record { begun = c.args.begun; packed = l }) ∷ []) c.deref.ensures.value))
+    (sym (c.in_ok-push.ensures.ok.1 ∙ ap (λ (l : List ℕ). c.self.inside.kernels ++ (record { begun = c.args.begun; packed = l; kind = c.in_ok-push.ensures.ok.0 }) ∷ []) c.deref.ensures.value))
     (held_more c.self.inside.dotted.flat c.self.inside.dotted.rules c.self.inside.lists c.self.inside.kernels c.args.self.now c.self.view_is c.self.inside.count c.self.invariant
-    c.pack_row.new.packed.items c.args.begun (in_lists c.self.inside.dotted.flat c.self.inside.dotted.rules c.self.inside.lists c.self.inside.kernels c.args.self.now c.self.view_is c.args.begun c.requires.begun) (let f = c.if-earleme-ge4294967296.false in let e = c.len-earleme.ensures in omega arith)
+    c.pack_row.new.packed.items c.in_ok-push.ensures.ok.0 c.args.begun (in_lists c.self.inside.dotted.flat c.self.inside.dotted.rules c.self.inside.lists c.self.inside.kernels c.args.self.now c.self.view_is c.args.begun c.requires.begun) (let f = c.if-earleme-ge4294967296.false in let e = c.len-earleme.ensures in omega arith)
     (row_pushed c.self.inside.dotted.flat c.self.inside.dotted.rules c.self.inside.lists c.self.inside.kernels c.args.self.now c.self.view_is c.self.inside.count c.self.invariant c.known.ensures.differ c.known.ensures.zero c.args.items.now c.pack_row.new.packed.items c.in_ok-pack_row.ensures.row c.in_ok-pack_row.ensures.same c.args.begun c.requires.begun c.requires.apart)
     c.in_ok-count.count
     (let all = row_length c.self.inside.dotted.rules (length c.self.inside.kernels) c.pack_row.new.packed.items (list_at c.self.inside.lists c.args.begun) in
-    let list = ap (λ (l : List ℕ). length l) c.row.ensures in
+    let list = ap (λ (l : List ℕ). length l) c.list.ensures in
     let sum = c.in_ok-count.ensures.ok in
     let own = c.len.ensures in
     omega arith))
@@ -29,10 +29,11 @@ invariant_of-self-2 c =
 pub returns-clause-ok : goal.returns-clause-ok
 returns-clause-ok c = (
   row_items c.self.inside.dotted.rules (length c.self.inside.kernels) c.pack_row.new.packed.items (list_at c.self.inside.lists c.args.begun),
+  c.in_ok-push.ensures.ok.0,
   ap (λ (k : List Kernel). seen c.self.inside.dotted.flat c.self.inside.dotted.rules c.self.inside.lists k)
-      (c.in_ok-push.ensures.ok ∙ ap (λ (l : List ℕ). c.self.inside.kernels ++ (record { begun = c.args.begun; packed = l }) ∷ []) c.deref.ensures.value)
+      (c.in_ok-push.ensures.ok.1 ∙ ap (λ (l : List ℕ). c.self.inside.kernels ++ (record { begun = c.args.begun; packed = l; kind = c.in_ok-push.ensures.ok.0 }) ∷ []) c.deref.ensures.value)
       ∙ seen_more c.self.inside.dotted.flat c.self.inside.dotted.rules c.self.inside.lists c.self.inside.kernels c.args.self.now c.self.view_is c.self.inside.count c.self.invariant
-      c.pack_row.new.packed.items c.args.begun (in_lists c.self.inside.dotted.flat c.self.inside.dotted.rules c.self.inside.lists c.self.inside.kernels c.args.self.now c.self.view_is c.args.begun c.requires.begun) (let f = c.if-earleme-ge4294967296.false in let e = c.len-earleme.ensures in omega arith)
+      c.pack_row.new.packed.items c.in_ok-push.ensures.ok.0 c.args.begun (in_lists c.self.inside.dotted.flat c.self.inside.dotted.rules c.self.inside.lists c.self.inside.kernels c.args.self.now c.self.view_is c.args.begun c.requires.begun) (let f = c.if-earleme-ge4294967296.false in let e = c.len-earleme.ensures in omega arith)
       (row_pushed c.self.inside.dotted.flat c.self.inside.dotted.rules c.self.inside.lists c.self.inside.kernels c.args.self.now c.self.view_is c.self.inside.count c.self.invariant c.known.ensures.differ c.known.ensures.zero c.args.items.now c.pack_row.new.packed.items c.in_ok-pack_row.ensures.row c.in_ok-pack_row.ensures.same c.args.begun c.requires.begun c.requires.apart),
   items_pushed c.self.inside.dotted.flat c.self.inside.dotted.rules c.self.inside.lists c.self.inside.kernels c.args.self.now c.self.view_is c.self.inside.count c.self.invariant c.known.ensures.differ c.known.ensures.zero c.args.items.now c.pack_row.new.packed.items c.in_ok-pack_row.ensures.row c.in_ok-pack_row.ensures.same c.args.begun c.requires.begun c.requires.apart,
 )

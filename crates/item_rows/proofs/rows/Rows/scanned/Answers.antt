@@ -1,8 +1,9 @@
-use Rattle.std.proofs.Common.{subst, List, Contains, arith}
+use Rattle.std.proofs.Common.{refl, subst, List, Contains, arith}
 use Rattle.recognizer_model.specs.declared.Item.{Item}
 use Rattle.recognizer_model.specs.Flat.{FlatGrammar}
 use Rattle.recognizer_model.specs.Counts.{IsListOf}
 use Rattle.kernels.specs.Slots.{placed_all}
+use Rattle.jagged.specs.Rows.{row_at as list_at}
 use Rattle.item_rows.specs.Rows.{row_at}
 use Rattle.item_rows.specs.Kept.{WaitsForTerminal}
 use Rattle.item_rows.proofs.Holding.{same_flat, in_kernels, list_there, fits, parts_here, items_here}
@@ -11,8 +12,8 @@ use Rattle.item_rows.proofs.rows.Rows.scanned.Goals as goal
 pub kernel-kernel-requires : goal.kernel-kernel-requires
 kernel-kernel-requires c = in_kernels c.self.inside.dotted.flat c.self.inside.dotted.rules c.self.inside.lists c.self.inside.kernels c.args.self.now c.self.view_is c.args.j c.requires
 
-pub row-begun-requires : goal.row-begun-requires
-row-begun-requires c = list_there c.self.inside.dotted.flat c.self.inside.dotted.rules c.self.inside.lists c.self.inside.kernels c.args.self.now c.self.view_is c.self.inside.count c.self.invariant c.args.j c.requires c.kernel-kernel.result.begun c.kernel-kernel.ensures.begun
+pub scanned-requires-clause-there : goal.scanned-requires-clause-there
+scanned-requires-clause-there c = list_there c.self.inside.dotted.flat c.self.inside.dotted.rules c.self.inside.lists c.self.inside.kernels c.args.self.now c.self.view_is c.self.inside.count c.self.invariant c.args.j c.requires c.kernel-kernel.result.begun c.kernel-kernel.ensures.begun
 
 pub overflow_cast-j : goal.overflow_cast-j
 overflow_cast-j c = let f = fits c.self.inside.dotted.flat c.self.inside.dotted.rules c.self.inside.lists c.self.inside.kernels c.args.self.now c.self.view_is c.self.inside.count c.self.invariant c.args.j c.requires in omega arith
@@ -20,7 +21,7 @@ overflow_cast-j c = let f = fits c.self.inside.dotted.flat c.self.inside.dotted.
 pub scanned-requires-clause-row : goal.scanned-requires-clause-row
 scanned-requires-clause-row c =
     parts_here c.self.inside.dotted.flat c.self.inside.dotted.rules c.self.inside.lists c.self.inside.kernels c.args.self.now c.self.view_is c.self.inside.count c.self.invariant c.args.j c.requires c.kernel-kernel.result.begun c.kernel-kernel.ensures.begun
-    (placed_all c.kernel-kernel.result.origins.now c.kernel-kernel.result.slotted.now) c.row-begun.result.now c.kernel-kernel.ensures.packed c.row-begun.ensures
+    (placed_all c.kernel-kernel.result.origins.now c.kernel-kernel.result.slotted.now) (list_at c.self.inside.lists c.kernel-kernel.result.begun) c.kernel-kernel.ensures.packed refl
 
 pub returns : goal.returns
 returns c =
@@ -28,4 +29,4 @@ returns c =
     (same_flat c.self.inside.dotted.flat c.self.inside.dotted.rules c.self.inside.lists c.self.inside.kernels c.args.self.now c.self.view_is)
     (subst (λ (l : List Item). IsListOf (λ item. Contains l item × WaitsForTerminal c.self.inside.dotted.flat item) c.scanned.result)
     (items_here c.self.inside.dotted.flat c.self.inside.dotted.rules c.self.inside.lists c.self.inside.kernels c.args.self.now c.self.view_is c.self.inside.count c.self.invariant c.args.j c.requires c.kernel-kernel.result.begun c.kernel-kernel.ensures.begun
-    (placed_all c.kernel-kernel.result.origins.now c.kernel-kernel.result.slotted.now) c.row-begun.result.now c.kernel-kernel.ensures.packed c.row-begun.ensures) c.scanned.ensures)
+    (placed_all c.kernel-kernel.result.origins.now c.kernel-kernel.result.slotted.now) (list_at c.self.inside.lists c.kernel-kernel.result.begun) c.kernel-kernel.ensures.packed refl) c.scanned.ensures)

@@ -1,4 +1,5 @@
 use Rattle.std.proofs.Common.{◌/◌, ◌++◌, ◌∷◌, [], ◌∙◌, sym, ap, subst, ℕ, List, map, Contains, arith}
+use Rattle.kernels.specs.Slots.{Rises}
 use Rattle.item_rows.specs.Rows.{ItemRows}
 use Rattle.item_rows.specs.Kept.{AreItems}
 use Rattle.item_rows.specs.Dotted.{dotted_at}
@@ -12,6 +13,11 @@ pack_row-requires-clause-items c = subst (λ (r : ItemRows). AreItems r.flat c.a
 
 pub list_dotted-requires : goal.list_dotted-requires
 list_dotted-requires c n h = let lt = c.in_ok-pack_row.ensures.row.within n (subst (λ (l : List ℕ). Contains l n) c.deref.ensures.value h) in let few = c.known.ensures.few in omega arith
+
+pub push-requires : goal.push-requires
+push-requires c =
+    subst Rises (sym (c.deref-2.ensures.value ∙ (c.in_ok-list_dotted.ensures ∙ ap (λ (l : List ℕ). map (λ n. n / 4294967296) l) c.deref.ensures.value)))
+    (list_dotted c.self.inside.dotted.rules c.args.items.now c.pack_row.new.packed.items c.in_ok-pack_row.ensures.row c.in_ok-pack_row.ensures.same c.known.ensures.zero c.requires.zero).rises
 
 pub invariant_of-self-2 : goal.invariant_of-self-2
 invariant_of-self-2 c =

@@ -1,0 +1,12 @@
+pub mod Cutting
+pub mod Rising
+pub mod Following
+pub mod Beginning
+pub mod Begins
+pub mod Listing
+pub mod Noting
+pub mod Sharing
+pub mod Symbols
+pub mod Starting
+pub mod Trying
+pub mod Meeting

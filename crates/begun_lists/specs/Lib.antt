@@ -1,0 +1,4 @@
+pub mod Closing
+pub mod Begun
+pub mod Tried
+pub mod Met

@@ -1,0 +1,3 @@
+pub mod Words
+mod Overlaying
+mod Gathering

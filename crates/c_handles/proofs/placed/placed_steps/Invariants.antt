@@ -1,0 +1,7 @@
+use Rattle.std.proofs.Common.{◌≡◌, map, take}
+use Rattle.grammar_core.specs.Steps.{step_of}
+use Rattle.c_handles.specs.Placed.{placed}
+use Rattle.c_handles.proofs.placed.placed_steps.Given as goal
+
+abbrev pub invariant-loop-step : goal.invariant-loop-step
+invariant-loop-step l = l.all.items ≡ map placed (map step_of (take l.step-index l.steps))

@@ -1,6 +1,0 @@
-use Rattle.std.proofs.Common.{◌∙◌}
-use Rattle.earley_sets.proofs.Noting.{some_noted}
-use Rattle.earley_sets.proofs.lists.number_of.Goals as goal
-
-pub returns : goal.returns
-returns c = some_noted c.copied.result c.args.numbers.now.entries c.args.symbols.now (c.copied.ensures ∙ c.get.ensures.value)

@@ -1,6 +1,0 @@
-use Rattle.std.proofs.Common.{take}
-use Rattle.leo_items.specs.Closed.{Grows}
-use Rattle.leo_items.proofs.hidden.put_all.Given as goal
-
-abbrev pub invariant-loop-item : goal.invariant-loop-item
-invariant-loop-item l = Grows l.initial.set.keys l.set.keys (take l.item-index l.items)

@@ -1,0 +1,3 @@
+pub mod Machines
+pub mod Calls
+pub mod Kept

@@ -1,0 +1,8 @@
+//! Lists of numbers that rise, which rows of items share. What is below each bound is counted when a list is made, so that the numbers
+//! between two bounds are found by their places.
+#![tactic(auto)]
+
+mod counts;
+mod lists;
+
+pub use lists::SharedLists;

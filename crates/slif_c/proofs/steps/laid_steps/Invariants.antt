@@ -1,7 +1,0 @@
-use Rattle.std.proofs.Common.{◌≡◌, map, take}
-use Rattle.grammar_core.specs.Steps.{step_of}
-use Rattle.slif_c.specs.Steps.{laid}
-use Rattle.slif_c.proofs.steps.laid_steps.Given as goal
-
-abbrev pub invariant-loop-step : goal.invariant-loop-step
-invariant-loop-step l = l.all.items ≡ map (laid l.forest.read) (map step_of (take l.step-index l.steps))
