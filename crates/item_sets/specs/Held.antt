@@ -4,7 +4,7 @@ use Rattle.recognizer_model.specs.declared.Item.{Item}
 
 -- so many are held in a list alone
 abbrev pub FEW : ℕ
-FEW = 16
+FEW = 48
 
 -- each item stands in the list once, and where there are more than few, the table has exactly these
 pub record IsHeld (items table : List Item) : Type 0 where

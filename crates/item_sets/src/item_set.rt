@@ -14,7 +14,7 @@ use std::marker::Model;
 type Table = IndexSet<Item, BuildHasherDefault<NearHasher>>;
 
 // So many items are held in a list alone: to go through them is cheaper than to hash.
-const FEW: usize = 16;
+const FEW: usize = 48;
 
 /// Items in the order in which they were added, each once.
 pub struct ItemSet {
