@@ -17,7 +17,7 @@ enum {
     SLIF_GRAMMAR = 3,   /* the grammar is refused; *fault tells why */
     SLIF_NO_MEMORY = 5, /* all that was given is as it was */
     SLIF_EMPTY = 6,     /* the handle is empty */
-    SLIF_RANGE = 7,     /* there is no symbol, rule, derivation, step or line of that number */
+    SLIF_RANGE = 7,     /* there is no symbol, rule, derivation or line of that number, or there are fewer steps */
 
     /* by calls of a scanner alone */
     SLIF_NOT_NOW = 8,      /* the call is for a grammar that is built, and this one is read by, or the other way round */

@@ -125,10 +125,19 @@ _lib = _library()
 _by = ctypes.byref
 
 
+def _fitting(types: Sequence[Any], words: Sequence[Any]) -> Sequence[Any]:
+    """The words of a call, where each number is one of its type: ctypes would cut it off."""
+    for kind, word in zip(types, words):
+        if kind in (_u32, _u64, _size) and isinstance(word, int) and not 0 <= word < 1 << 8 * ctypes.sizeof(kind):
+            raise OverflowError(f"{word} is not from 0 to {(1 << 8 * ctypes.sizeof(kind)) - 1}")
+    return words
+
+
 def _over(handle: _Handle, call: Any, *words: Any) -> int:
     """Calls the library over a handle, when no other thread does."""
+    fitting = _fitting(call.argtypes[1:], words)
     with handle.lock:
-        return call(_by(handle), *words)
+        return call(_by(handle), *fitting)
 
 
 class Step(NamedTuple):
@@ -424,6 +433,10 @@ class Scanner:
     Traceback (most recent call last):
         ...
     slif.ScanError: unexpected
+    >>> scanner.alternative(noun, 2 ** 32 + 1)
+    Traceback (most recent call last):
+        ...
+    OverflowError: 4294967297 is not from 0 to 4294967295
     >>> scanner.restart()
     >>> scanner.expected() == [noun]
     True
@@ -450,7 +463,7 @@ class Scanner:
     def rule(self, left: int, *parts: int) -> int:
         """One more rule, and its number."""
         rule = _u32()
-        self._stop(_over(self._handle, _lib.slif_scan_rule, left, (_u32 * max(len(parts), 1))(*parts), len(parts), _by(rule)))
+        self._stop(_over(self._handle, _lib.slif_scan_rule, left, (_u32 * max(len(parts), 1))(*_fitting([_u32] * len(parts), parts)), len(parts), _by(rule)))
         return rule.value
 
     def sequence(self, left: int, item: int, *, plus: bool = False, separator: Optional[int] = None, proper: bool = False) -> int:
@@ -504,7 +517,7 @@ class Scanner:
         self._stop(_over(self._handle, _lib.slif_scan_restart))
 
     def derivations(self) -> Iterator[list[Step]]:
-        """The derivations of the start from place 0 to the place at the time of the call, each by its steps."""
+        """The derivations of the start from place 0 to the place, each by its steps. Leave the scanner alone while they are gone through."""
         skip, most = 0, 1
         while True:
             handle, count, more, total = _Handle(), _u64(), ctypes.c_bool(), _size()

@@ -273,7 +273,8 @@ impl<'g> Model for Recce<'g> {
 }
 
 /// A number for what the last set waits for, and a place whose set waits for the same terminals. The number is a hint: it is that of the
-/// list of terminals, small and one for each list that is noted, so that a caller may index a table by it; no clause speaks of it.
+/// list of terminals, small and one for each list that is noted, or 4,294,967,295 where none is; a caller may index a table by it. No clause
+/// speaks of it.
 #[derive(Clone, Copy)]
 pub struct Alike {
     pub kind: u32,

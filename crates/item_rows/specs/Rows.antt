@@ -1,4 +1,4 @@
--- Rows that are kept end to end, told apart by the places where each ends; and lists that several rows share.
+-- Rows of items, place by place; and lists that several rows share.
 use Rattle.std.specs.Prelude.{◌≡◌, ℕ, ◌<◌, ◌++◌, ◌↔◌, List, [], ◌∷◌, length, slice_index_or, Contains}
 use Rattle.recognizer_model.specs.declared.Item.{Item}
 use Rattle.recognizer_model.specs.Flat.{FlatGrammar}

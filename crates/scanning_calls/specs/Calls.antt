@@ -81,7 +81,7 @@ start_refusal m symbol =
 abbrev pub StartAnswers : {T : Type 0} → Machine → ℕ → Result T ScanRefusal → (after : Machine) → Type 0
 StartAnswers m symbol result after = Answers (start_refusal m symbol) result (after ≡ m) (λ _. after ≡ with_grammar m (with_start m.grammar symbol))
 
--- the grammar is read by from now on; or not, and the text says the first reason why not
+-- the grammar is read by from now on; or not, and where it is bad the text says the first reason why
 abbrev pub PrecomputeAnswers : {T : Type 0} → Phase → Machine → (after : Machine) → Result T ScanRefusal → (text : List ℕ) → Type 0
 PrecomputeAnswers Reading m after result text = (result ≡ Err NotNow) × (after ≡ m)
 PrecomputeAnswers Building m after (Ok x) text = (after ≡ that_reads m) × PrecomputeReplies m (says (that_reads m) (codes "ready"))

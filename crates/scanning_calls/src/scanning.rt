@@ -99,7 +99,7 @@ impl Scanning {
         }
     }
 
-    /// Makes the grammar ready to be read by, at place 0. Where it is refused, why stands in place of what `text` held.
+    /// Makes the grammar ready to be read by, at place 0. Where the answer is `BadGrammar`, why stands in place of what `text` held.
     #[tactic(auto, using(crate::proofs::Hearing::reads_first))]
     pub fn precompute(&mut self, alloc: Global, text: &mut Vec<u8>) -> Result<(), ScanRefusal>
         ensures { PrecomputeAnswers self.old.phase self.old self.new result text.new.items }
