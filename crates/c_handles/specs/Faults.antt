@@ -12,19 +12,19 @@ code_of (Grammar message place) = 3
 code_of (Input message place expected) = 1
 code_of NoMemory = 5
 
-abbrev pub line_of : Option Place → ℕ
-line_of (Some place) = place.line
-line_of None = 0
+abbrev pub line_at : Option Place → ℕ
+line_at (Some place) = place.line
+line_at None = 0
 
-abbrev pub column_of : Option Place → ℕ
-column_of (Some place) = place.column
-column_of None = 0
+abbrev pub column_at : Option Place → ℕ
+column_at (Some place) = place.column
+column_at None = 0
 
 abbrev pub fault_of : ParseError → (before : Fault) → Fault
 fault_of (Grammar message place) before =
-    record { line = line_of place; column = column_of place; message = length (string_bytes message); expected = 0 }
+    record { line = line_at place; column = column_at place; message = length (string_bytes message); expected = 0 }
 fault_of (Input message place expected) before =
-    record { line = line_of place; column = column_of place; message = length (string_bytes message); expected = length expected.items }
+    record { line = line_at place; column = column_at place; message = length (string_bytes message); expected = length expected.items }
 fault_of NoMemory before = before
 
 abbrev pub message_of : ParseError → (before : List ℕ) → List ℕ

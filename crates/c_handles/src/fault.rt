@@ -1,7 +1,7 @@
 //! What is told of a refusal.
 ghost use Rattle.std.specs.Prelude.{◌≡◌, ◌<◌, length};
 ghost use Rattle.c_handles.specs.Copying.{overlaid};
-ghost use Rattle.c_handles.specs.Faults.{code_of, column_of, expected_of, fault_of, line_of, message_of};
+ghost use Rattle.c_handles.specs.Faults.{code_of, column_at, expected_of, fault_of, line_at, message_of};
 
 use crate::codes::{GRAMMAR, INPUT, NO_MEMORY};
 use crate::copying::copy_front;
@@ -20,8 +20,8 @@ pub struct Fault {
 // What is told of an error with a message, where so many lexemes could come next.
 fn fault_at(place: Option<Place>, message: &str, expected: usize) -> Fault
     ensures { result ≡ record {
-      line = line_of place;
-      column = column_of place;
+      line = line_at place;
+      column = column_at place;
       message = length message.now;
       expected = expected;
     } }
