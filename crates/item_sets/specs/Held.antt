@@ -1,12 +1,14 @@
 -- A set of items as it is held.
-use Rattle.std.specs.Prelude.{◌≢◌, ℕ, ◌<◌, ◌↔◌, List, length, Contains, AllPairs}
+use Rattle.std.specs.Prelude.{◌≢◌, ℕ, ◌≤◌, ◌↔◌, List, length, take, Contains, AllPairs}
 use Rattle.recognizer_model.specs.declared.Item.{Item}
 
--- so many are held in a list alone
-abbrev pub FEW : ℕ
-FEW = 48
+-- the table has exactly so many first items
+abbrev pub HasFirst : (table items : List Item) → (filled : ℕ) → Type 0
+HasFirst table items filled = (item : Item) → Contains table item ↔ Contains (take filled items) item
 
--- each item stands in the list once, and where there are more than few, the table has exactly these
-pub record IsHeld (items table : List Item) : Type 0 where
+-- each item stands in the list once, the table has the first ones, and no item begins before the least origin
+pub record IsHeld (items table : List Item) (filled least : ℕ) : Type 0 where
   pub once : AllPairs (λ x y. x ≢ y) items
-  pub many : FEW < length items → (item : Item) → Contains table item ↔ Contains items item
+  pub within : filled ≤ length items
+  pub first : HasFirst table items filled
+  pub begun : (item : Item) → Contains items item → least ≤ item.origin

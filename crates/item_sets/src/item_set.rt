@@ -3,6 +3,7 @@ ghost use Rattle.std.specs.Prelude.{◌≡◌, ◌≢◌, ◌<◌, ◌≤◌, �
 ghost use Rattle.std.specs.List.{AllPairs};
 ghost use Rattle.recognizer_model.specs.declared.Item.{Item as TheItem};
 ghost use Rattle.item_sets.specs.Adding.{Adds};
+ghost use Rattle.item_sets.specs.Held.{HasFirst};
 
 use crate::NearHasher;
 use indexmap::IndexSet;
@@ -19,8 +20,11 @@ const FEW: usize = 48;
 /// Items in the order in which they were added, each once.
 pub struct ItemSet {
     items: Vec<Item>,
-    // has all of them, where they are more than few
+    // has so many first ones: the others are put there before the next look-up among many
     table: Table,
+    filled: usize,
+    // no item begins before this place, so one that does is new
+    least: u32,
 }
 
 impl Model for ItemSet {
@@ -32,12 +36,17 @@ impl Model for ItemSet {
 
     ghost view = { λ s. s.items.items };
 
-    ghost invariant = { λ s. IsHeld s.items.items s.table.keys };
+    ghost invariant = { λ s. IsHeld s.items.items s.table.keys s.filled s.least };
 }
 
 impl Drop for ItemSet {
     fn drop(self) {
-        let ItemSet { items: _, table: _ } = self;
+        let ItemSet {
+            items: _,
+            table: _,
+            filled: _,
+            least: _,
+        } = self;
     }
 }
 
@@ -78,31 +87,30 @@ fn put(table: &mut Table, item: Item) -> Result<(), AllocFailed<Item>>
     Ok(())
 }
 
-// Fills the table anew.
-fn fill(table: &mut Table, items: &[Item]) -> Result<(), AllocFailed<Item>>
-    ensures { OnOk result ((x : TheItem) →
-        Contains table.new.keys x ↔ Contains items.now x) }
+// Puts the items after the first ones into the table, and tells how many it has then: all, or as many as there is memory for.
+fn fill(table: &mut Table, items: &[Item], filled: usize) -> usize
+    requires within { filled ≤ length items.now }
+    requires first { HasFirst table.old.keys items.now filled }
+    ensures within { result ≤ length items.now }
+    ensures first { HasFirst table.new.keys items.now result }
 {
-    table.clear();
-    for item in items {
-        put(table, *item)?;
+    let mut count = filled;
+    while count < items.len() {
+        match put(table, items[count]) {
+            Ok(()) => count += 1,
+            Err(_refused) => return count,
+        }
     }
-    Ok(())
+    count
 }
 
-// Fills the table where it is not filled yet, since one item more makes many.
-fn make_ready(table: &mut Table, items: &[Item]) -> Result<(), AllocFailed<Item>>
-    requires many { FEW ≤ length items.now }
-    requires same { FEW < length items.now → (x : TheItem) →
-        Contains table.old.keys x ↔ Contains items.now x }
-    ensures ok { OnOk result ((x : TheItem) →
-        Contains table.new.keys x ↔ Contains items.now x) }
-    ensures err { OnErr result (length items.now ≤ FEW) }
+// Whether an item is in the table, or among those that are not put there yet.
+fn is_held(table: &Table, items: &[Item], filled: usize, item: Item) -> bool
+    requires within { filled ≤ length items.now }
+    requires first { HasFirst table.now.keys items.now filled }
+    ensures { IsTrue result ↔ Contains items.now item }
 {
-    if items.len() > FEW {
-        return Ok(());
-    }
-    fill(table, items)
+    is_in_table(table, item) || is_among(&items[filled..], item)
 }
 
 impl ItemSet {
@@ -113,6 +121,8 @@ impl ItemSet {
         ItemSet {
             items: Vec::new(alloc),
             table: IndexSet::with_hasher(alloc, BuildHasherDefault::new()),
+            filled: 0,
+            least: u32::MAX,
         }
     }
 
@@ -156,7 +166,12 @@ impl ItemSet {
         ensures items { result.items ≡ self }
         ensures once { AllPairs (λ x y. x ≢ y) result.items }
     {
-        let ItemSet { items, table: _ } = self;
+        let ItemSet {
+            items,
+            table: _,
+            filled: _,
+            least: _,
+        } = self;
         items
     }
 
@@ -168,7 +183,7 @@ impl ItemSet {
         if self.items.len() <= FEW {
             is_among(&self.items, item)
         } else {
-            is_in_table(&self.table, item)
+            is_held(&self.table, &self.items, self.filled, item)
         }
     }
 
@@ -178,10 +193,37 @@ impl ItemSet {
         ensures ok { OnOk result (Adds self.old self.new item) }
         ensures err { OnErr result (self.new ≡ self.old) }
     {
+        if item.origin < self.least {
+            return self.push(item);
+        }
+        self.make_ready()?;
         if self.contains(item) {
             return Ok(());
         }
         self.push(item)
+    }
+
+    /// Makes ready for look-ups: until the next item is added, they do not go through many.
+    #[inline(always)]
+    pub fn make_ready(&mut self) -> Result<(), AllocError>
+        ensures { self.new ≡ self.old }
+    {
+        if self.items.len() <= FEW {
+            return Ok(());
+        }
+        self.fill_table()
+    }
+
+    // Puts all into the table.
+    fn fill_table(&mut self) -> Result<(), AllocError>
+        ensures { self.new ≡ self.old }
+    {
+        self.filled = fill(&mut self.table, &self.items, self.filled);
+        if self.filled == self.items.len() {
+            Ok(())
+        } else {
+            Err(AllocError)
+        }
     }
 
     // Adds an item that is not there yet.
@@ -191,36 +233,22 @@ impl ItemSet {
         ensures ok { OnOk result (self.new ≡ self.old ++ item ∷ []) }
         ensures err { OnErr result (self.new ≡ self.old) }
     {
-        if self.items.len() >= FEW {
-            return self.push_past(item);
-        }
         self.items.push(item)?;
+        self.least = self.least.min(item.origin);
         Ok(())
     }
 
-    // The same, where they are more than few with it.
-    fn push_past(&mut self, item: Item) -> Result<(), AllocError>
-        requires apart { ¬ Contains self.old item }
-        requires many { FEW ≤ length self.old }
-        ensures ok { OnOk result (self.new ≡ self.old ++ item ∷ []) }
-        ensures err { OnErr result (self.new ≡ self.old) }
-    {
-        make_ready(&mut self.table, &self.items)?;
-        self.items.push(item)?;
-        match put(&mut self.table, item) {
-            Ok(()) => Ok(()),
-            Err(_refused) => {
-                let _last = self.items.pop();
-                Err(AllocError)
-            }
-        }
-    }
-
-    /// Lets all items go, and keeps their room. The table is cleared where it is filled again.
+    /// Lets all items go, and keeps their room.
     #[inline(always)]
     pub fn clear(&mut self)
         ensures { self.new ≡ [] }
     {
         self.items.clear();
+        self.least = u32::MAX;
+        if self.filled == 0 {
+            return;
+        }
+        self.table.clear();
+        self.filled = 0;
     }
 }

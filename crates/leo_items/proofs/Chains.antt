@@ -94,7 +94,7 @@ module _ (g : FlatGrammar) (rows : List (List Item)) where
         } in
         subst (λ p. IsNotable p top) (sym (e ∙ ap (pair_of g) same)) up
 
-same_pair-true : (x y : Pair) → same_pair x y ≡ true → x ≡ y
+pub same_pair-true : (x y : Pair) → same_pair x y ≡ true → x ≡ y
 same_pair-true x y h =
     let (a, b) = and_parts (x.set == y.set) (x.symbol == y.symbol) h in
     let ea = eqb-true x.set y.set a in

@@ -7,6 +7,6 @@ pub mod Loops
 pub mod Hiding
 pub mod Standing
 pub mod Walking
-pub mod Noting
+pub mod Linking
 pub mod Ways
 pub mod Twice

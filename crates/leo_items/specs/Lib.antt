@@ -1,5 +1,6 @@
 pub mod Steps
 pub mod Memo
+pub mod Linked
 pub mod ByRows
 pub mod Ways
 pub mod Closed

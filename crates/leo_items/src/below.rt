@@ -38,6 +38,7 @@ fn gather(alloc: Global, tops: &[Item], bottoms: &[Item]) -> Result<ItemSet, All
     }
     put_all(tops, &mut first)?;
     put_all(bottoms, &mut first)?;
+    first.make_ready()?;
     Ok(first)
 }
 

@@ -37,8 +37,8 @@ pub fn pair_above(flat: &Flat, item: Item) -> Pair
     }
 }
 
-// A way is noted from so many steps on: a shorter one is found as fast again.
-const LONG: usize = 4;
+// A way is noted from so many steps on: one step is found as fast as a note.
+const LONG: usize = 2;
 
 /// Where a way ends, and how many steps were walked of it after the first.
 #[derive(Clone, Copy)]

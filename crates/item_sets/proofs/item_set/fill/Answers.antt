@@ -1,14 +1,19 @@
-use Rattle.std.proofs.Common.{subst, arith}
-use Rattle.std.proofs.lemmas.List.{take_all}
-use Rattle.item_sets.proofs.Holding.{AreIn, in_none, in_more}
+use Rattle.std.proofs.Common.{List, sym, subst, arith}
+use Rattle.recognizer_model.specs.declared.Item.{Item}
+use Rattle.item_sets.specs.Held.{HasFirst}
+use Rattle.item_sets.proofs.Holding.{first_more}
 use Rattle.item_sets.proofs.item_set.fill.Goals as goal
 
-pub loop-item-init : goal.loop-item-init
-loop-item-init c = in_none c.clear.new.self.keys c.clear.ensures.empty
+pub loop-count-init : goal.loop-count-init
+loop-count-init c = record { within = c.requires.within; first = c.requires.first }
 
-pub loop-item-preserved : goal.loop-item-preserved
-loop-item-preserved c =
-    in_more c.loop-item.table.keys c.put.new.table.keys c.args.items.now c.loop-item.item-index (record { rule = 0; dot = 0; origin = 0 }) (omega arith) c.loop-item.invariant c.in_ok-put.ensures.ok
+pub loop-count-preserved : goal.loop-count-preserved
+loop-count-preserved c =
+    let lt = c.loop-count-test.true in
+    record {
+      within = omega arith;
+      first = first_more c.loop-count.table.keys c.put.new.table.keys c.args.items.now c.loop-count.count (record { rule = 0; dot = 0; origin = 0 }) lt c.loop-count.invariant.first c.in-Ok.ensures.ok;
+    }
 
-pub returns : goal.returns
-returns c = subst (AreIn c.loop-item.table.keys) (take_all c.loop-item.item-index c.args.items.now c.loop-item-test.false) c.loop-item.invariant
+pub returns-in-Err-clause-first : goal.returns-in-Err-clause-first
+returns-in-Err-clause-first c = subst (λ (l : List Item). HasFirst l c.args.items.now c.loop-count.count) (sym c.in-Err.ensures.err) c.loop-count.invariant.first

@@ -1,4 +1,4 @@
-use Rattle.std.proofs.Common.{◌+◌, ◌++◌, ◌≡◌, length, sym, subst, arith, get_or}
+use Rattle.std.proofs.Common.{◌+◌, ◌++◌, length, arith, get_or}
 use Rattle.finite_sets.proofs.Lists.{got_item}
 use Rattle.recognizer_model.specs.declared.Item.{Item}
 use Rattle.leo_items.proofs.Walking.{first_at, walked_more, walked_on}

@@ -1,6 +1,5 @@
 use Rattle.std.proofs.Common.{◌+◌, ◌++◌, length, arith, length-append}
 use Rattle.finite_sets.proofs.Lists.{got_item}
-use Rattle.leo_items.specs.Walked.{IsWalked}
 use Rattle.leo_items.proofs.Loops.{got_none}
 use Rattle.leo_items.proofs.Walking.{later_at, walked_more, walked_on}
 use Rattle.leo_items.proofs.below.add_later_steps.Goals as goal

@@ -1,4 +1,4 @@
-use Rattle.std.proofs.Common.{inl, inr, refl, true≢false, sym, ◌∙◌, ◌++◌}
+use Rattle.std.proofs.Common.{inl, inr, refl, true≢false, sym, ◌∙◌}
 use Rattle.std.proofs.lemmas.Result.{on_ok_weaker}
 use Rattle.std.proofs.lemmas.List.Elements.{Contains-append_left, Contains-append_right, Contains-append_cases}
 use Rattle.leo_items.specs.Walked.{NoStep, IsThere, IsNew}

@@ -1,6 +1,5 @@
-use Rattle.std.proofs.Common.{sym, ap, subst, arith, ◌+◌, ◌↔◌, take, Contains}
+use Rattle.std.proofs.Common.{sym, subst, arith, ◌+◌, ◌↔◌, take, Contains}
 use Rattle.std.proofs.lemmas.List.{take_all}
-use Rattle.recognizer_model.specs.declared.Item.{Item}
 use Rattle.leo_items.specs.Hidden.{IsFrom}
 use Rattle.leo_items.proofs.Hiding.{AreFrom, from_none, from_add, from_skip}
 use Rattle.leo_items.proofs.hidden.put_from.Goals.{then-from-item+in_ok-insert, else-from-item}
