@@ -1,5 +1,5 @@
 -- Slotted items: numbers of dotted rules, each with a slot, the place of its origin among the origins of a row.
-use Rattle.std.specs.Prelude.{ℕ, ◌+◌, ◌*◌, ◌/◌, ◌%◌, ◌<◌, ◌^◌, List, length, map, slice_index_or, Contains}
+use Rattle.std.specs.Prelude.{◌≡◌, ℕ, ◌+◌, ◌*◌, ◌/◌, ◌%◌, ◌<◌, ◌^◌, List, length, map, slice_index_or, Contains}
 use Rattle.std.specs.List.{AllPairs}
 
 abbrev pub Rises : List ℕ → Type 0
@@ -8,6 +8,10 @@ Rises row = AllPairs (λ m n. m < n) row
 -- the packed item: the slot's origin in place of the slot
 abbrev pub placed : (origins : List ℕ) → ℕ → ℕ
 placed origins n = (n / 4294967296) * 4294967296 + slice_index_or origins (n % 4294967296) 0
+
+-- the slot has an origin, and with it in place of the slot the packed item is there
+abbrev pub IsPlaced : (origins : List ℕ) → (slotted packed : ℕ) → Type 0
+IsPlaced origins slotted packed = (slotted % 4294967296 < length origins) × (placed origins slotted ≡ packed)
 
 abbrev pub placed_all : (origins slotted : List ℕ) → List ℕ
 placed_all origins slotted = map (placed origins) slotted

@@ -1,12 +1,15 @@
 //! The shape of a row is guessed before it is looked up. A guess may be wrong: `fits` tells whether it holds.
-ghost use Rattle.std.specs.Prelude.{◌≡◌, ℕ, ◌%◌, ◌<◌, length, slice_index_or, Contains, IsTrue, IfOk};
-ghost use Rattle.kernels.specs.Slots.{Rises, placed, placed_all, AreSlotted};
+ghost use Rattle.std.specs.Prelude.{◌≡◌, ℕ, ◌%◌, ◌<◌, ◌≤◌, ◌∷◌, [], length, slice_index_or, IsTrue, IfOk, OnOk};
+ghost use Rattle.kernels.specs.Slots.{Rises, placed_all, IsPlaced, AreSlotted};
 
 use crate::slots::ORIGINS;
 use std::alloc::AllocError;
 
 // How many guesses there are.
 const GUESSES: usize = 4096;
+
+// Stands at slots whose origin is not known yet.
+const UNSET: u32 = u32::MAX;
 
 /// The place of the guess for packed items whose row shares a list.
 pub(crate) fn place_of(packed: &[u64], begun: u32) -> usize {
@@ -30,8 +33,16 @@ pub(crate) fn guess_at(guesses: &[u32], place: usize) -> u32
     }
 }
 
-/// Sets what is guessed at a place, if there is memory for guesses.
-pub(crate) fn put_guess(guesses: &mut Vec<u32>, place: usize, kind: u32) {
+/// Mends a guess that was wrong.
+#[inline(always)]
+pub(crate) fn mend_guess(guesses: &mut Vec<u32>, place: usize, guess: u32, kind: u32) {
+    if kind != guess {
+        put_guess(guesses, place, kind);
+    }
+}
+
+// Sets what is guessed at a place, if there is memory for guesses.
+fn put_guess(guesses: &mut Vec<u32>, place: usize, kind: u32) {
     if guesses.is_empty() && guesses.resize(GUESSES, 0).is_err() {
         return;
     }
@@ -55,52 +66,92 @@ pub(crate) fn fits(
     if slotted.len() != packed.len() {
         return Ok(false);
     }
-    list_by_slots(slotted, packed, origins)?;
-    Ok(are_placed(slotted, packed, origins) && do_rise(origins))
+    if packed.len() == 1 {
+        return fits_one(slotted[0], packed[0], origins);
+    }
+    if !place_all(slotted, packed, origins)? {
+        return Ok(false);
+    }
+    Ok(do_rise(origins))
 }
 
-// Lists the origins of packed items, each where the slotted item has it, in place of what it held.
-fn list_by_slots(slotted: &[u64], packed: &[u64], origins: &mut Vec<u32>) -> Result<(), AllocError>
-    requires { length slotted.now ≡ length packed.now }
+// The same for one item alone, as many rows have: its slot is the first.
+#[inline(always)]
+fn fits_one(slotted: u64, packed: u64, origins: &mut Vec<u32>) -> Result<bool, AllocError>
+    ensures one { IfOk result (λ fits. IsTrue fits →
+        origins.new.items ≡ packed % 4294967296 ∷ []) }
+    ensures placed { IfOk result (λ fits. IsTrue fits →
+        IsPlaced origins.new.items slotted packed) }
 {
-    origins.resize(packed.len(), 0)?;
-    let mut count = 0;
-    for k in 0..slotted.len() {
-        let slot = (slotted[k] % ORIGINS) as usize;
-        if slot < origins.len() {
-            origins[slot] = (packed[k] % ORIGINS) as u32;
-        }
-        count = count.max(slot + 1);
+    if slotted != packed / ORIGINS * ORIGINS {
+        return Ok(false);
     }
-    origins.truncate(count);
+    origins.clear();
+    origins.push((packed % ORIGINS) as u32)?;
+    Ok(true)
+}
+
+// Puts the origin of each packed item at its slot, in place of what was held, and tells whether each slot has one origin.
+fn place_all(slotted: &[u64], packed: &[u64], origins: &mut Vec<u32>) -> Result<bool, AllocError>
+    requires { length slotted.now ≡ length packed.now }
+    ensures { IfOk result (λ are. IsTrue are → (k : ℕ) → k < length slotted.now →
+        IsPlaced origins.new.items (slice_index_or slotted.now k 0)
+        (slice_index_or packed.now k 0)) }
+{
+    origins.clear();
+    for k in 0..slotted.len() {
+        if !place(slotted[k], packed[k], origins)? {
+            return Ok(false);
+        }
+    }
+    Ok(true)
+}
+
+// Puts the origin of a packed item at its slot, and tells whether it is there and the dotted rules are the same.
+#[inline(always)]
+fn place(slotted: u64, packed: u64, origins: &mut Vec<u32>) -> Result<bool, AllocError>
+    ensures placed { IfOk result (λ is. IsTrue is → IsPlaced origins.new.items slotted packed ×
+        (packed % 4294967296 < 4294967295)) }
+    ensures kept { (m n : ℕ) → IsPlaced origins.old.items m n → n % 4294967296 < 4294967295 →
+        IsPlaced origins.new.items m n }
+{
+    let slot = (slotted % ORIGINS) as usize;
+    let origin = (packed % ORIGINS) as u32;
+    if origin == UNSET || slotted / ORIGINS != packed / ORIGINS {
+        return Ok(false);
+    }
+    make_room(origins, slot)?;
+    Ok(put(origins, slot, origin))
+}
+
+// Makes room for a slot. No origin is changed.
+#[inline(always)]
+fn make_room(origins: &mut Vec<u32>, slot: usize) -> Result<(), AllocError>
+    requires { slot < 4294967296 }
+    ensures room { OnOk result (slot < length origins.new.items) }
+    ensures longer { length origins.old.items ≤ length origins.new.items }
+    ensures same { (k : ℕ) → k < length origins.old.items →
+        slice_index_or origins.new.items k 0 ≡ slice_index_or origins.old.items k 0 }
+{
+    if slot >= origins.len() {
+        origins.resize(slot + 1, UNSET)?;
+    }
     Ok(())
 }
 
-// Whether packed items are slotted ones with these origins in place of slots.
-fn are_placed(slotted: &[u64], packed: &[u64], origins: &[u32]) -> bool
-    requires { length slotted.now ≡ length packed.now }
-    ensures slots { IsTrue result → (n : ℕ) → Contains slotted.now n →
-        n % 4294967296 < length origins.now }
-    ensures packed { IsTrue result → placed_all origins.now slotted.now ≡ packed.now }
-{
-    for k in 0..slotted.len() {
-        if !is_placed(slotted[k], packed[k], origins) {
-            return false;
-        }
-    }
-    true
-}
-
-// Whether a packed item is a slotted one with its origin in place of its slot.
+// Puts an origin at a slot where none is yet, and tells whether it is there.
 #[inline(always)]
-fn is_placed(slotted: u64, packed: u64, origins: &[u32]) -> bool
-    ensures slot { IsTrue result → slotted % 4294967296 < length origins.now }
-    ensures packed { IsTrue result → placed origins.now slotted ≡ packed }
+fn put(origins: &mut Vec<u32>, slot: usize, origin: u32) -> bool
+    requires { slot < length origins.old.items }
+    ensures there { IsTrue result → slice_index_or origins.new.items slot 0 ≡ origin }
+    ensures long { length origins.new.items ≡ length origins.old.items }
+    ensures same { (k : ℕ) → slice_index_or origins.old.items k 0 < 4294967295 →
+        slice_index_or origins.new.items k 0 ≡ slice_index_or origins.old.items k 0 }
 {
-    match origins.get((slotted % ORIGINS) as usize) {
-        Some(origin) => slotted / ORIGINS * ORIGINS + *origin as u64 == packed,
-        None => false,
+    if origins[slot] == UNSET {
+        origins[slot] = origin;
     }
+    origins[slot] == origin
 }
 
 // Whether each origin is greater than the one before.

@@ -4,7 +4,7 @@ ghost use Rattle.kernels.specs.Slots.{Rises, placed_all, dotted_of, AreSlotted};
 ghost use Rattle.kernels.specs.Shapes.{kernel_at, AreOfShapes, IsShapeAt, IsOfShape};
 ghost use Rattle.kernels.specs.declared.shapes.Shape.{Shape as TheShape};
 
-use crate::guess::{fits, guess_at, place_of, put_guess};
+use crate::guess::{fits, guess_at, mend_guess, place_of};
 use crate::slots::{list_origins, list_slotted};
 use indexmap::IndexSet;
 use jagged::Jagged;
@@ -148,7 +148,7 @@ impl Kernels {
             next,
             &mut self.slots,
         )?;
-        put_guess(&mut self.guesses, place, kind);
+        mend_guess(&mut self.guesses, place, guess, kind);
         self.kinds.reserve(1)?;
         self.origins.push(&self.slots)?;
         self.kinds.push_reserved(kind);
