@@ -1,12 +1,12 @@
 -- What a program gathers from the rows of lexemes and the starts that are marked is what reading takes.
-use Rattle.std.proofs.Common.{arith, ◌≡◌, ◌↔◌, inr, ℕ, ◌+◌, ◌<◌, ◌≤◌, ◌≤ℤ◌, List, [], length, map, get_or, Contains, Some, None, refl, sym, ◌∙◌, ap, subst}
+use Rattle.std.proofs.Common.{arith, ◌≡◌, ◌↔◌, inr, ℕ, ◌+◌, ◌<◌, ◌≤◌, ◌≤ℤ◌, List, [], ◌∷◌, zero, suc, length, map, get_or, Contains, Some, None, refl, sym, ◌∙◌, ap, subst}
 use Rattle.std.proofs.lemmas.List.Elements.{Contains-get_or}
 use Rattle.std.specs.List.Sorted.{IsStrictlySortedBy}
 use Rattle.std.specs.Ordering.{nat_cmp}
-use Rattle.std.specs.Prelude.{slice_get, option_map}
-use Rattle.std.proofs.lemmas.Option.{slice_get-map}
+use Rattle.std.specs.Prelude.{slice_get, slice_index_or, option_map}
+use Rattle.std.proofs.lemmas.Option.{slice_get-map, slice_get-get_or}
 use Rattle.std.proofs.lemmas.Simd.{map-map}
-use Rattle.finite_sets.proofs.Deciding.{most_twice}
+use Rattle.finite_sets.proofs.Deciding.{most_itself, most_twice}
 use Rattle.finite_sets.proofs.Lists.{Contains-none, Contains-map}
 use Rattle.language_model.specs.Building.{Built, LexemeRow}
 use Rattle.dsl_build.specs.declared.built.LexemeRow.{LexemeRow as HeldRow}
@@ -51,6 +51,26 @@ one_longest b text pieces at m n l k = let x = l.longest k.start n k.candidate k
 
 pub skipped_is : (b : Built) (text : List ℕ) (pieces : List Piece) (at n : ℕ) (matched : List ℕ) → IsLongestBy b text pieces at n matched → ((k : ℕ) × Contains b.discards k × Contains matched k) ↔ IsSkipped b text pieces at n
 skipped_is b text pieces at n matched by = ((λ (k, c, mk). (k, c, ((by.exact k).0 mk).1)), (λ (k, c, h). (k, c, (by.exact k).1 (ADiscard c, h))))
+
+-- ---- a start alone, and its only row
+
+pub alone : (starts : List ℕ) → length starts ≡ 1 → starts ≡ slice_index_or starts 0 0 ∷ []
+alone [] one = absurd (omega arith)
+alone (x ∷ []) one = refl
+alone (x ∷ (y ∷ more)) one = absurd (omega arith)
+
+one_start : (start j k : ℕ) → Contains (start ∷ []) j → Contains (start ∷ []) k → j ≡ k
+one_start start j k (zero, a, e) (zero, b, f) = sym e ∙ f
+one_start start j k (zero, a, e) (suc i, b, f) = absurd (omega arith)
+one_start start j k (suc i, a, e) c = absurd (omega arith)
+
+row_of_place : (rows : List HeldRow) → ArePlaced rows → (q r : HeldRow) → Contains rows q → Contains rows r → q.start ≡ r.start → q ≡ r
+row_of_place rows placed q r (i, a, e) (j, b, f) same =
+    let x : slice_get rows i ≡ Some q = slice_get-get_or rows i q a ∙ ap Some e in
+    let y : slice_get rows j ≡ Some r = slice_get-get_or rows j r b ∙ ap Some f in
+    let k : i ≡ j = sym (placed i q x) ∙ (same ∙ placed j r y) in
+    let z : Some q ≡ Some r = sym x ∙ (ap (slice_get rows) k ∙ y) in
+    cc
 
 -- ---- the rows are those of the lexemes
 
@@ -138,3 +158,28 @@ module _ (b : Built) (rows : List HeldRow) (rows_are : map row_of rows ≡ b.lex
               let s : r.symbol ≡ symbol = subst (λ (z : LexemeRow). z.symbol ≡ symbol) same k.symbol_is in
               let above : h.priority ≤ℤ r.priority = subst (λ (z : LexemeRow). h.priority ≤ℤ z.priority) same (k.highest (row_of h) (fit_is h h_in h_fit)) in
               (g symbol).1 (r, m, (fit, most_twice r.priority h.priority (most r m fit) above), s)
+
+      -- one start alone has the match, and the rows have their places
+      pub one_kept : (start : ℕ) (kept : List ℕ) → matched ≡ start ∷ [] → ArePlaced rows → Gathers (IsFit recce (start ∷ [])) (λ (r : HeldRow). r.symbol) rows kept → (symbol : ℕ) → Contains kept symbol ↔ IsKept b text pieces at n symbol
+      one_kept start kept is_one placed g symbol = (there, back)
+        where
+          fits : (r : HeldRow) → IsFit recce matched r → IsFit recce (start ∷ []) r
+          fits r f = subst (λ starts. IsFit recce starts r) is_one f
+
+          there : Contains kept symbol → IsKept b text pieces at n symbol
+          there c =
+              let (r, m, fit, is) = (g symbol).0 c in
+              record {
+                row = row_of r;
+                symbol_is = is;
+                fitting = fit_is r m (subst (λ starts. IsFit recce starts r) (sym is_one) fit);
+                highest = λ other f. (
+                    let (q, k, same, o) = is_fit other f in
+                    let one : q ≡ r = row_of_place rows placed q r k m (one_start start q.start r.start (fits q o).0 fit.0) in
+                    subst (λ (z : LexemeRow). z.priority ≤ℤ r.priority) (sym same) (subst (λ (z : HeldRow). z.priority ≤ℤ r.priority) (sym one) (most_itself r.priority)));
+              }
+
+          back : IsKept b text pieces at n symbol → Contains kept symbol
+          back k =
+              let (r, m, same, fit) = is_fit k.row k.fitting in
+              (g symbol).1 (r, m, fits r fit, subst (λ (z : LexemeRow). z.symbol ≡ symbol) same k.symbol_is)

@@ -58,3 +58,20 @@ module _ (xs : List ℕ) (x i : ℕ) (sorted : IsStrictlySortedBy nat_cmp xs) wh
     put_exact s =
         let p = IsPermutation-insert xs i x in
         (λ c. cons_cases x s xs (Contains-permutation (insert xs i x) (x ∷ xs) s (IsPermutation-sym (x ∷ xs) (insert xs i x) p) c), λ o. Contains-permutation (x ∷ xs) (insert xs i x) s p (cons_back x s xs o))
+
+-- a number that stands alone
+module _ (x : ℕ) (xs : List ℕ) (is : xs ≡ x ∷ []) where
+  pub one_sorted : IsStrictlySortedBy nat_cmp xs
+  unfolding IsStrictlySortedBy
+  one_sorted = subst (IsStrictlySortedBy nat_cmp) (sym is) (tt, tt)
+
+  pub one_exact : (y : ℕ) → Contains xs y ↔ (Contains [] y ⊎ (y ≡ x))
+  one_exact y = subst (λ l. Contains l y ↔ (Contains [] y ⊎ (y ≡ x))) (sym is) (there, back)
+    where
+      there : Contains (x ∷ []) y → Contains [] y ⊎ (y ≡ x)
+      there (zero, lt, e) = inr (sym e)
+      there (suc k, lt, e) = absurd (omega arith)
+
+      back : Contains [] y ⊎ (y ≡ x) → Contains (x ∷ []) y
+      back (inl (k, lt, e)) = absurd (omega arith)
+      back (inr e) = (0, omega arith, sym e)

@@ -155,6 +155,25 @@ fn keep_all(
     Ok(())
 }
 
+// Keeps the lexeme of a start that alone has the longest match, if it fits: no other has a higher priority.
+fn keep_one(
+    rows: &[LexemeRow],
+    recce: &Recce<'_>,
+    start: u32,
+    kept: &mut Vec<SymbolId>,
+) -> Result<(), AllocFailed<SymbolId>>
+    requires places { ArePlaced rows.now }
+    requires none { kept.old.items ≡ [] }
+    ensures sorted { OnOk result (IsStrictlySortedBy nat_cmp kept.new.items) }
+    ensures exact { OnOk result (Gathers (IsFit recce.now (start ∷ []))
+        (λ (r : HeldRow). r.symbol) rows.now kept.new.items) }
+{
+    match fitting(rows, recce, start) {
+        Some(row) => kept.push(row.symbol),
+        None => Ok(()),
+    }
+}
+
 // Lists the lexemes that are kept of the longest match, by their numbers.
 fn list_kept(
     p: &Prepared,
@@ -173,6 +192,9 @@ fn list_kept(
     let _place = recce.place();
     let rows = p.lexemes();
     kept.clear();
+    if matched.len() == 1 {
+        return keep_one(rows, recce, matched[0], kept);
+    }
     match highest(rows, recce, matched) {
         Some(row) => keep_all(rows, recce, matched, row, kept),
         None => Ok(()),
