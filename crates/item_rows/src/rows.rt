@@ -10,12 +10,13 @@ ghost use Rattle.item_rows.specs.Unbound.{AreRowsOf, rows_with};
 
 use crate::dotted::{DottedRules, UnboundDots};
 use crate::packed::{
-    Row, contains, has_scanned, list_dotted, pack_row, row_of, scanned, waiting, whole,
+    Row, at_places, contains, has_scanned, list_dotted, pack_row, row_of, scanned, waiting, whole,
 };
+use crate::places::note;
 use grammar_core::Flat;
 use kernels::Kernels;
 use recognizer_model::Item;
-use shared_lists::SharedLists;
+use shared_lists::{Noted, SharedLists};
 use std::alloc::{AllocError, Global};
 use std::marker::Model;
 
@@ -28,6 +29,8 @@ pub struct Rows<'g> {
     lists: SharedLists,
     // how many items the rows have together
     count: usize,
+    // where the items stand that wait for symbols
+    noted: Noted,
     // what is put last
     next: Vec<u64>,
     numbers: Vec<u32>,
@@ -40,6 +43,7 @@ impl<'g> Drop for Rows<'g> {
             kernels: _,
             lists: _,
             count: _,
+            noted: _,
             next: _,
             numbers: _,
         } = self;
@@ -49,6 +53,7 @@ impl<'g> Drop for Rows<'g> {
 impl<'g> Model for Rows<'g> {
     ghost use Rattle.item_rows.specs.Rows.{ItemRows};
     ghost use Rattle.item_rows.specs.Held.{rows_from, lists_from, kinds_of, AreHeld};
+    ghost use Rattle.item_rows.specs.Noted.{AreNoted};
 
     ghost Value = { ItemRows };
 
@@ -59,7 +64,8 @@ impl<'g> Model for Rows<'g> {
       kinds = kinds_of r.kernels;
     } };
 
-    ghost invariant = { λ r. AreHeld r.dotted.rules r.lists r.kernels r.count };
+    ghost invariant = { λ r. AreHeld r.dotted.rules r.lists r.kernels r.count ×
+        AreNoted r.dotted.flat r.dotted.rules r.lists r.kernels r.noted.blocks.items };
 }
 
 impl<'g> Rows<'g> {
@@ -75,6 +81,7 @@ impl<'g> Rows<'g> {
             kernels: Kernels::new(alloc),
             lists,
             count: 0,
+            noted: Noted::new(alloc),
             next: Vec::new(alloc),
             numbers: Vec::new(alloc),
         })
@@ -112,8 +119,14 @@ impl<'g> Rows<'g> {
             (after self.now.flat item ≡ Some symbol))
             result }
     {
+        self.dotted.known();
+        self.kernels.known();
         let kernel = self.kernels.kernel(j);
-        waiting(&self.dotted, kernel, &self.lists, j as u32, symbol)
+        let earleme = j as u32;
+        match self.noted.places(self.kernels.kind(j), symbol) {
+            Some(places) => at_places(&self.dotted, kernel, &self.lists, earleme, places),
+            None => waiting(&self.dotted, kernel, &self.lists, earleme, symbol),
+        }
     }
 
     /// The items of a row with the dot at the end.
@@ -200,6 +213,7 @@ impl<'g> Rows<'g> {
     {
         let count = self.row(0).len();
         self.kernels.keep_first();
+        self.noted.clear();
         self.count = count;
     }
 
@@ -248,6 +262,14 @@ impl<'g> Rows<'g> {
         let count = add(self.count, size)?;
         self.kernels.push(&self.next, begun)?;
         self.count = count;
+        note(
+            *self.numbers.allocator(),
+            &mut self.noted,
+            &self.dotted,
+            &self.kernels,
+            &self.lists,
+            earleme,
+        );
         Ok(())
     }
 
@@ -261,6 +283,7 @@ impl<'g> Rows<'g> {
             kernels,
             lists,
             count,
+            noted,
             next,
             numbers,
         } = self;
@@ -269,6 +292,7 @@ impl<'g> Rows<'g> {
             kernels,
             lists,
             count,
+            noted,
             next,
             numbers,
         }
@@ -282,6 +306,7 @@ pub struct UnboundRows {
     kernels: Kernels,
     lists: SharedLists,
     count: usize,
+    noted: Noted,
     next: Vec<u64>,
     numbers: Vec<u32>,
 }
@@ -297,6 +322,7 @@ impl UnboundRows {
             kernels,
             lists,
             count,
+            noted,
             next,
             numbers,
         } = self;
@@ -305,6 +331,7 @@ impl UnboundRows {
             kernels,
             lists,
             count,
+            noted,
             next,
             numbers,
         }

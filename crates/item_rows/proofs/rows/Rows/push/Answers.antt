@@ -16,9 +16,9 @@ pub invariant_of-self-2 : goal.invariant_of-self-2
 invariant_of-self-2 c =
     subst (λ (k : List Kernel). AreHeld c.self.inside.dotted.rules c.self.inside.lists k c.in_ok-count.count)
     (sym (c.in_ok-push.ensures.ok.1 ∙ ap (λ (l : List ℕ). c.self.inside.kernels ++ (record { begun = c.args.begun; packed = l; kind = c.in_ok-push.ensures.ok.0 }) ∷ []) c.deref.ensures.value))
-    (held_more c.self.inside.dotted.flat c.self.inside.dotted.rules c.self.inside.lists c.self.inside.kernels c.args.self.now c.self.view_is c.self.inside.count c.self.invariant
+    (held_more c.self.inside.dotted.flat c.self.inside.dotted.rules c.self.inside.lists c.self.inside.kernels c.args.self.now c.self.view_is c.self.inside.count c.self.invariant.0
     c.pack_row.new.packed.items c.in_ok-push.ensures.ok.0 c.args.begun (in_lists c.self.inside.dotted.flat c.self.inside.dotted.rules c.self.inside.lists c.self.inside.kernels c.args.self.now c.self.view_is c.args.begun c.requires.begun) (let f = c.if-earleme-ge4294967296.false in let e = c.len-earleme.ensures in omega arith)
-    (row_pushed c.self.inside.dotted.flat c.self.inside.dotted.rules c.self.inside.lists c.self.inside.kernels c.args.self.now c.self.view_is c.self.inside.count c.self.invariant c.known.ensures.differ c.known.ensures.zero c.args.items.now c.pack_row.new.packed.items c.in_ok-pack_row.ensures.row c.in_ok-pack_row.ensures.same c.args.begun c.requires.begun c.requires.apart)
+    (row_pushed c.self.inside.dotted.flat c.self.inside.dotted.rules c.self.inside.lists c.self.inside.kernels c.args.self.now c.self.view_is c.self.inside.count c.self.invariant.0 c.known.ensures.differ c.known.ensures.zero c.args.items.now c.pack_row.new.packed.items c.in_ok-pack_row.ensures.row c.in_ok-pack_row.ensures.same c.args.begun c.requires.begun c.requires.apart)
     c.in_ok-count.count
     (let all = row_length c.self.inside.dotted.rules (length c.self.inside.kernels) c.pack_row.new.packed.items (list_at c.self.inside.lists c.args.begun) in
     let list = ap (λ (l : List ℕ). length l) c.list.ensures in
@@ -32,8 +32,8 @@ returns-clause-ok c = (
   c.in_ok-push.ensures.ok.0,
   ap (λ (k : List Kernel). seen c.self.inside.dotted.flat c.self.inside.dotted.rules c.self.inside.lists k)
       (c.in_ok-push.ensures.ok.1 ∙ ap (λ (l : List ℕ). c.self.inside.kernels ++ (record { begun = c.args.begun; packed = l; kind = c.in_ok-push.ensures.ok.0 }) ∷ []) c.deref.ensures.value)
-      ∙ seen_more c.self.inside.dotted.flat c.self.inside.dotted.rules c.self.inside.lists c.self.inside.kernels c.args.self.now c.self.view_is c.self.inside.count c.self.invariant
+      ∙ seen_more c.self.inside.dotted.flat c.self.inside.dotted.rules c.self.inside.lists c.self.inside.kernels c.args.self.now c.self.view_is c.self.inside.count c.self.invariant.0
       c.pack_row.new.packed.items c.in_ok-push.ensures.ok.0 c.args.begun (in_lists c.self.inside.dotted.flat c.self.inside.dotted.rules c.self.inside.lists c.self.inside.kernels c.args.self.now c.self.view_is c.args.begun c.requires.begun) (let f = c.if-earleme-ge4294967296.false in let e = c.len-earleme.ensures in omega arith)
-      (row_pushed c.self.inside.dotted.flat c.self.inside.dotted.rules c.self.inside.lists c.self.inside.kernels c.args.self.now c.self.view_is c.self.inside.count c.self.invariant c.known.ensures.differ c.known.ensures.zero c.args.items.now c.pack_row.new.packed.items c.in_ok-pack_row.ensures.row c.in_ok-pack_row.ensures.same c.args.begun c.requires.begun c.requires.apart),
-  items_pushed c.self.inside.dotted.flat c.self.inside.dotted.rules c.self.inside.lists c.self.inside.kernels c.args.self.now c.self.view_is c.self.inside.count c.self.invariant c.known.ensures.differ c.known.ensures.zero c.args.items.now c.pack_row.new.packed.items c.in_ok-pack_row.ensures.row c.in_ok-pack_row.ensures.same c.args.begun c.requires.begun c.requires.apart,
+      (row_pushed c.self.inside.dotted.flat c.self.inside.dotted.rules c.self.inside.lists c.self.inside.kernels c.args.self.now c.self.view_is c.self.inside.count c.self.invariant.0 c.known.ensures.differ c.known.ensures.zero c.args.items.now c.pack_row.new.packed.items c.in_ok-pack_row.ensures.row c.in_ok-pack_row.ensures.same c.args.begun c.requires.begun c.requires.apart),
+  items_pushed c.self.inside.dotted.flat c.self.inside.dotted.rules c.self.inside.lists c.self.inside.kernels c.args.self.now c.self.view_is c.self.inside.count c.self.invariant.0 c.known.ensures.differ c.known.ensures.zero c.args.items.now c.pack_row.new.packed.items c.in_ok-pack_row.ensures.row c.in_ok-pack_row.ensures.same c.args.begun c.requires.begun c.requires.apart,
 )

@@ -23,13 +23,13 @@ pub invariant_of-self-2 : goal.invariant_of-self-2
 invariant_of-self-2 c =
     subst (λ (l : List (List ℕ)). AreHeld c.self.inside.dotted.rules l c.self.inside.kernels c.self.inside.count)
     (sym (c.in_ok-push.ensures.ok ∙ ap (λ (l : List ℕ). c.self.inside.lists ++ l ∷ []) (c.deref-2.ensures.value ∙ (c.in_ok-list_dotted.ensures ∙ ap (λ (l : List ℕ). map (λ n. n / 4294967296) l) c.deref.ensures.value))))
-    (held_shared c.self.inside.dotted.flat c.self.inside.dotted.rules c.self.inside.lists c.self.inside.kernels c.args.self.now c.self.view_is c.self.inside.count c.self.invariant (map (λ n. n / 4294967296) c.pack_row.new.packed.items) (list_dotted c.self.inside.dotted.rules c.args.items.now c.pack_row.new.packed.items c.in_ok-pack_row.ensures.row c.in_ok-pack_row.ensures.same c.known.ensures.zero c.requires.zero))
+    (held_shared c.self.inside.dotted.flat c.self.inside.dotted.rules c.self.inside.lists c.self.inside.kernels c.args.self.now c.self.view_is c.self.inside.count c.self.invariant.0 (map (λ n. n / 4294967296) c.pack_row.new.packed.items) (list_dotted c.self.inside.dotted.rules c.args.items.now c.pack_row.new.packed.items c.in_ok-pack_row.ensures.row c.in_ok-pack_row.ensures.same c.known.ensures.zero c.requires.zero))
 
 pub returns-clause-ok : goal.returns-clause-ok
 returns-clause-ok c = (
   map (dotted_at c.self.inside.dotted.rules) (map (λ n. n / 4294967296) c.pack_row.new.packed.items),
   ap (λ (l : List (List ℕ)). seen c.self.inside.dotted.flat c.self.inside.dotted.rules l c.self.inside.kernels)
       (c.in_ok-push.ensures.ok ∙ ap (λ (l : List ℕ). c.self.inside.lists ++ l ∷ []) (c.deref-2.ensures.value ∙ (c.in_ok-list_dotted.ensures ∙ ap (λ (l : List ℕ). map (λ n. n / 4294967296) l) c.deref.ensures.value)))
-      ∙ seen_shared c.self.inside.dotted.flat c.self.inside.dotted.rules c.self.inside.lists c.self.inside.kernels c.args.self.now c.self.view_is c.self.inside.count c.self.invariant (map (λ n. n / 4294967296) c.pack_row.new.packed.items) (list_dotted c.self.inside.dotted.rules c.args.items.now c.pack_row.new.packed.items c.in_ok-pack_row.ensures.row c.in_ok-pack_row.ensures.same c.known.ensures.zero c.requires.zero),
+      ∙ seen_shared c.self.inside.dotted.flat c.self.inside.dotted.rules c.self.inside.lists c.self.inside.kernels c.args.self.now c.self.view_is c.self.inside.count c.self.invariant.0 (map (λ n. n / 4294967296) c.pack_row.new.packed.items) (list_dotted c.self.inside.dotted.rules c.args.items.now c.pack_row.new.packed.items c.in_ok-pack_row.ensures.row c.in_ok-pack_row.ensures.same c.known.ensures.zero c.requires.zero),
   list_items c.self.inside.dotted.rules c.args.items.now c.pack_row.new.packed.items c.in_ok-pack_row.ensures.row c.in_ok-pack_row.ensures.same c.known.ensures.zero c.requires.zero,
 )
