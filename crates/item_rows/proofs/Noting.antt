@@ -160,11 +160,11 @@ module _ (g : FlatGrammar) (rules : List Item) (lists : List (List ℕ)) (kernel
     noted_put kind e list is block all new put k x p h = elim (put k x p h) [
       | inl old ↦ noted k x p old
       | inr (same, has) ↦ record {
-          row = j;
-          there = lt;
-          kind_is = sym e ∙ sym same;
-          are =
-              subst (λ (l : List ℕ). ArePlaces g rules (dotted_of (kernel_at kernels j).packed) l x p) (is ∙ list_here)
-              (subst (λ (l : List ℕ). ArePlaces g rules l list x p) dotted_here (all x p has));
-        }
+        row = j;
+        there = lt;
+        kind_is = sym e ∙ sym same;
+        are =
+            subst (λ (l : List ℕ). ArePlaces g rules (dotted_of (kernel_at kernels j).packed) l x p) (is ∙ list_here)
+            (subst (λ (l : List ℕ). ArePlaces g rules l list x p) dotted_here (all x p has));
+      }
     ]

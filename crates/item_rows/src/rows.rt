@@ -21,6 +21,7 @@ use std::alloc::{AllocError, Global};
 use std::marker::Model;
 
 /// Rows of items of a flat grammar. A row is a list of its own and one that rows share.
+#[derive(Drop)]
 pub struct Rows<'g> {
     dotted: DottedRules<'g>,
     // the items that are a row's own, and the number of the list that it shares, row by row
@@ -34,20 +35,6 @@ pub struct Rows<'g> {
     // what is put last
     next: Vec<u64>,
     numbers: Vec<u32>,
-}
-
-impl<'g> Drop for Rows<'g> {
-    fn drop(self) {
-        let Rows {
-            dotted: _,
-            kernels: _,
-            lists: _,
-            count: _,
-            noted: _,
-            next: _,
-            numbers: _,
-        } = self;
-    }
 }
 
 impl<'g> Model for Rows<'g> {
@@ -119,7 +106,6 @@ impl<'g> Rows<'g> {
             (after self.now.flat item ≡ Some symbol))
             result }
     {
-        self.dotted.known();
         self.kernels.known();
         let kernel = self.kernels.kernel(j);
         let earleme = j as u32;

@@ -13,7 +13,7 @@ loop-symbol-preserved c =
     let grown = ap length c.in_ok-push.ensures.items ∙ length-append c.loop-symbol.block.items (c.places_of.result ∷ []) in (
       omega (arith, grown, long),
       more_noted (ArePlaces c.args.dotted.now.flat c.args.dotted.now.rules (dotted_of c.args.slotted.now) c.args.list.now) c.loop-symbol.block.items c.places_of.result c.loop-symbol.symbol c.push.new.self.items are long
-      (record { span = c.span.result; is = c.span.ensures; own = c.places_of.ensures.own; others = c.places_of.ensures.others }) c.in_ok-push.ensures.items,
+          (record { span = c.span.result; is = c.span.ensures; own = c.places_of.ensures.own; others = c.places_of.ensures.others }) c.in_ok-push.ensures.items,
     )
 
 pub returns : goal.returns
