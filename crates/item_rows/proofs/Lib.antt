@@ -2,6 +2,7 @@ pub mod Holding
 pub mod Items
 pub mod Joined
 pub mod Listed
+pub mod Noting
 pub mod Terminals
 pub mod Ordered
 pub mod Packing

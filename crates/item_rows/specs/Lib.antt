@@ -5,3 +5,4 @@ pub mod Dotted
 pub mod Held
 pub mod Heads
 pub mod Unbound
+pub mod Noted

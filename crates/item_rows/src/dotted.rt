@@ -358,6 +358,14 @@ impl<'g> DottedRules<'g> {
         pack_with(&self.rules, number, item)
     }
 
+    /// How many symbols the grammar has.
+    pub(crate) fn symbol_count(&self) -> usize
+        ensures { result < 2 ^ 32 }
+    {
+        self.flat.known();
+        self.flat.symbol_count()
+    }
+
     /// The dotted rules that wait for a symbol.
     pub fn span(&self, symbol: u32) -> Span
         ensures { IsSpan self.now.flat self.now.rules symbol result }

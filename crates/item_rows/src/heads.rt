@@ -14,18 +14,10 @@ pub struct Rules {
 }
 
 /// The rules of the symbols, by the symbols' numbers, and the symbols of as many terminals, by the terminals' numbers.
+#[derive(Drop)]
 pub struct Heads {
     pub rules: Vec<Rules>,
     pub symbols: Vec<Option<u32>>,
-}
-
-impl Drop for Heads {
-    fn drop(self) {
-        let Heads {
-            rules: _,
-            symbols: _,
-        } = self;
-    }
 }
 
 // Looks for the rules of a symbol.

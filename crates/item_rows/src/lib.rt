@@ -6,6 +6,7 @@ mod dotted;
 mod heads;
 mod order;
 mod packed;
+mod places;
 mod rows;
 
 pub use heads::{Heads, Rules, list_heads, rules_of, symbol_of};

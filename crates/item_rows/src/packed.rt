@@ -5,14 +5,15 @@ ghost use Rattle.recognizer_model.specs.declared.Item.{Item as TheItem};
 ghost use Rattle.recognizer_model.specs.Counts.{IsListOf};
 ghost use Rattle.recognizer_model.specs.Items.{after, IsWhole};
 ghost use Rattle.item_rows.specs.Kept.{AreItems, IsAwaited, WaitsForTerminal};
-ghost use Rattle.kernels.specs.Slots.{Rises, placed_all, AreSlotted};
+ghost use Rattle.kernels.specs.Slots.{Rises, placed_all, dotted_of, AreSlotted};
+ghost use Rattle.item_rows.specs.Noted.{ArePlaces};
 ghost use Rattle.jagged.specs.Rows.{row_at as list_at};
 ghost use Rattle.item_rows.specs.Dotted.{unpacked, IsPackedRow, AreDotted, IsRowOfParts, AreWithin, row_items};
 
 use crate::dotted::{DottedRules, Span, begin, unpack};
 use kernels::{KernelRef, ORIGINS, slot_of};
 use recognizer_model::Item;
-use shared_lists::SharedLists;
+use shared_lists::{Places, SharedLists};
 use std::alloc::{AllocError, AllocFailed};
 use std::marker::Model;
 
@@ -153,8 +154,8 @@ fn count_few_below(packed: &[u64], bound: u64) -> usize
     packed.len()
 }
 
-// How many numbers are below a bound.
-fn count_below(packed: &[u64], bound: u64) -> usize
+/// How many numbers are below a bound.
+pub(crate) fn count_below(packed: &[u64], bound: u64) -> usize
     requires { Rises packed.now }
     ensures bound { result ≤ length packed.now }
     ensures below { (k : ℕ) → k < result → slice_index packed.now k < bound }
@@ -215,8 +216,8 @@ fn between<T>(items: &[T], start: usize, end: usize) -> &[T]
     &items[start..end]
 }
 
-// The least number that an item with a dotted rule is packed into.
-fn first_of(number: u32) -> u64
+/// The least number that an item with a dotted rule is packed into.
+pub(crate) fn first_of(number: u32) -> u64
     ensures { result ≡ number * 4294967296 }
 {
     number as u64 * 4_294_967_296
@@ -269,6 +270,46 @@ pub fn waiting<'r>(
 {
     dotted.known();
     narrowed(dotted, kernel, lists, earleme, dotted.span(symbol))
+}
+
+/// The items of a row that wait for a symbol, by the places where they stand.
+pub fn at_places<'r>(
+    dotted: &'r DottedRules<'_>,
+    kernel: KernelRef<'r>,
+    lists: &'r SharedLists,
+    earleme: u32,
+    places: Places,
+) -> Row<'r>
+    requires slotted { AreSlotted kernel.origins.now kernel.slotted.now }
+    requires there { kernel.begun < length lists.now }
+    requires row { IsRowOfParts dotted.now.rules earleme
+        (placed_all kernel.origins.now kernel.slotted.now) (list_at lists.now kernel.begun) }
+    requires places { (symbol : ℕ) × ArePlaces dotted.now.flat dotted.now.rules
+        (dotted_of kernel.slotted.now) (list_at lists.now kernel.begun) symbol places }
+    ensures { (symbol : ℕ) → ArePlaces dotted.now.flat dotted.now.rules
+        (dotted_of kernel.entry.slotted.now) (list_at lists.now kernel.entry.begun) symbol places →
+        IsListOf
+        (λ item. Contains (row_items dotted.now.rules earleme
+        (placed_all kernel.entry.origins.now kernel.entry.slotted.now)
+        (list_at lists.now kernel.entry.begun)) item ×
+        (after dotted.now.flat item ≡ Some symbol))
+        result }
+{
+    dotted.known();
+    let own = KernelRef {
+        slotted: between(
+            kernel.slotted,
+            places.own_start as usize,
+            places.own_end as usize,
+        ),
+        ..kernel
+    };
+    let others = between(
+        lists.list(kernel.begun as usize),
+        places.begun_start as usize,
+        places.begun_end as usize,
+    );
+    row_of(dotted.rules(), own, others, earleme)
 }
 
 /// The items of a row with the dot at the end.

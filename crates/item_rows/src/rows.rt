@@ -10,16 +10,18 @@ ghost use Rattle.item_rows.specs.Unbound.{AreRowsOf, rows_with};
 
 use crate::dotted::{DottedRules, UnboundDots};
 use crate::packed::{
-    Row, contains, has_scanned, list_dotted, pack_row, row_of, scanned, waiting, whole,
+    Row, at_places, contains, has_scanned, list_dotted, pack_row, row_of, scanned, waiting, whole,
 };
+use crate::places::note;
 use grammar_core::Flat;
 use kernels::Kernels;
 use recognizer_model::Item;
-use shared_lists::SharedLists;
+use shared_lists::{Noted, SharedLists};
 use std::alloc::{AllocError, Global};
 use std::marker::Model;
 
 /// Rows of items of a flat grammar. A row is a list of its own and one that rows share.
+#[derive(Drop)]
 pub struct Rows<'g> {
     dotted: DottedRules<'g>,
     // the items that are a row's own, and the number of the list that it shares, row by row
@@ -28,27 +30,17 @@ pub struct Rows<'g> {
     lists: SharedLists,
     // how many items the rows have together
     count: usize,
+    // where the items stand that wait for symbols
+    noted: Noted,
     // what is put last
     next: Vec<u64>,
     numbers: Vec<u32>,
 }
 
-impl<'g> Drop for Rows<'g> {
-    fn drop(self) {
-        let Rows {
-            dotted: _,
-            kernels: _,
-            lists: _,
-            count: _,
-            next: _,
-            numbers: _,
-        } = self;
-    }
-}
-
 impl<'g> Model for Rows<'g> {
     ghost use Rattle.item_rows.specs.Rows.{ItemRows};
     ghost use Rattle.item_rows.specs.Held.{rows_from, lists_from, kinds_of, AreHeld};
+    ghost use Rattle.item_rows.specs.Noted.{AreNoted};
 
     ghost Value = { ItemRows };
 
@@ -59,7 +51,8 @@ impl<'g> Model for Rows<'g> {
       kinds = kinds_of r.kernels;
     } };
 
-    ghost invariant = { λ r. AreHeld r.dotted.rules r.lists r.kernels r.count };
+    ghost invariant = { λ r. AreHeld r.dotted.rules r.lists r.kernels r.count ×
+        AreNoted r.dotted.flat r.dotted.rules r.lists r.kernels r.noted.blocks.items };
 }
 
 impl<'g> Rows<'g> {
@@ -75,6 +68,7 @@ impl<'g> Rows<'g> {
             kernels: Kernels::new(alloc),
             lists,
             count: 0,
+            noted: Noted::new(alloc),
             next: Vec::new(alloc),
             numbers: Vec::new(alloc),
         })
@@ -112,8 +106,13 @@ impl<'g> Rows<'g> {
             (after self.now.flat item ≡ Some symbol))
             result }
     {
+        self.kernels.known();
         let kernel = self.kernels.kernel(j);
-        waiting(&self.dotted, kernel, &self.lists, j as u32, symbol)
+        let earleme = j as u32;
+        match self.noted.places(self.kernels.kind(j), symbol) {
+            Some(places) => at_places(&self.dotted, kernel, &self.lists, earleme, places),
+            None => waiting(&self.dotted, kernel, &self.lists, earleme, symbol),
+        }
     }
 
     /// The items of a row with the dot at the end.
@@ -200,6 +199,7 @@ impl<'g> Rows<'g> {
     {
         let count = self.row(0).len();
         self.kernels.keep_first();
+        self.noted.clear();
         self.count = count;
     }
 
@@ -248,6 +248,14 @@ impl<'g> Rows<'g> {
         let count = add(self.count, size)?;
         self.kernels.push(&self.next, begun)?;
         self.count = count;
+        note(
+            *self.numbers.allocator(),
+            &mut self.noted,
+            &self.dotted,
+            &self.kernels,
+            &self.lists,
+            earleme,
+        );
         Ok(())
     }
 
@@ -261,6 +269,7 @@ impl<'g> Rows<'g> {
             kernels,
             lists,
             count,
+            noted,
             next,
             numbers,
         } = self;
@@ -269,6 +278,7 @@ impl<'g> Rows<'g> {
             kernels,
             lists,
             count,
+            noted,
             next,
             numbers,
         }
@@ -282,6 +292,7 @@ pub struct UnboundRows {
     kernels: Kernels,
     lists: SharedLists,
     count: usize,
+    noted: Noted,
     next: Vec<u64>,
     numbers: Vec<u32>,
 }
@@ -297,6 +308,7 @@ impl UnboundRows {
             kernels,
             lists,
             count,
+            noted,
             next,
             numbers,
         } = self;
@@ -305,6 +317,7 @@ impl UnboundRows {
             kernels,
             lists,
             count,
+            noted,
             next,
             numbers,
         }

@@ -23,8 +23,8 @@ fn count_few(list: &[u32], bound: u32) -> usize
     list.len()
 }
 
-// How many numbers are below a bound.
-fn count(list: &[u32], bound: u32) -> usize
+/// How many numbers are below a bound.
+pub fn count(list: &[u32], bound: u32) -> usize
     requires { Rises list.now }
     ensures bound { result ≤ length list.now }
     ensures below { (k : ℕ) → k < result → slice_index list.now k < bound }

@@ -4,5 +4,8 @@
 
 mod counts;
 mod lists;
+mod places;
 
+pub use counts::count;
 pub use lists::SharedLists;
+pub use places::{Noted, Places};

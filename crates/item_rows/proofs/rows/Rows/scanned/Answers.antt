@@ -13,14 +13,14 @@ pub kernel-kernel-requires : goal.kernel-kernel-requires
 kernel-kernel-requires c = in_kernels c.self.inside.dotted.flat c.self.inside.dotted.rules c.self.inside.lists c.self.inside.kernels c.args.self.now c.self.view_is c.args.j c.requires
 
 pub scanned-requires-clause-there : goal.scanned-requires-clause-there
-scanned-requires-clause-there c = list_there c.self.inside.dotted.flat c.self.inside.dotted.rules c.self.inside.lists c.self.inside.kernels c.args.self.now c.self.view_is c.self.inside.count c.self.invariant c.args.j c.requires c.kernel-kernel.result.begun c.kernel-kernel.ensures.begun
+scanned-requires-clause-there c = list_there c.self.inside.dotted.flat c.self.inside.dotted.rules c.self.inside.lists c.self.inside.kernels c.args.self.now c.self.view_is c.self.inside.count c.self.invariant.0 c.args.j c.requires c.kernel-kernel.result.begun c.kernel-kernel.ensures.begun
 
 pub overflow_cast-j : goal.overflow_cast-j
-overflow_cast-j c = let f = fits c.self.inside.dotted.flat c.self.inside.dotted.rules c.self.inside.lists c.self.inside.kernels c.args.self.now c.self.view_is c.self.inside.count c.self.invariant c.args.j c.requires in omega arith
+overflow_cast-j c = let f = fits c.self.inside.dotted.flat c.self.inside.dotted.rules c.self.inside.lists c.self.inside.kernels c.args.self.now c.self.view_is c.self.inside.count c.self.invariant.0 c.args.j c.requires in omega arith
 
 pub scanned-requires-clause-row : goal.scanned-requires-clause-row
 scanned-requires-clause-row c =
-    parts_here c.self.inside.dotted.flat c.self.inside.dotted.rules c.self.inside.lists c.self.inside.kernels c.args.self.now c.self.view_is c.self.inside.count c.self.invariant c.args.j c.requires c.kernel-kernel.result.begun c.kernel-kernel.ensures.begun
+    parts_here c.self.inside.dotted.flat c.self.inside.dotted.rules c.self.inside.lists c.self.inside.kernels c.args.self.now c.self.view_is c.self.inside.count c.self.invariant.0 c.args.j c.requires c.kernel-kernel.result.begun c.kernel-kernel.ensures.begun
     (placed_all c.kernel-kernel.result.origins.now c.kernel-kernel.result.slotted.now) (list_at c.self.inside.lists c.kernel-kernel.result.begun) c.kernel-kernel.ensures.packed refl
 
 pub returns : goal.returns
@@ -28,5 +28,5 @@ returns c =
     subst (λ (f : FlatGrammar). IsListOf (λ item. Contains (row_at c.args.self.now.sets c.args.j) item × WaitsForTerminal f item) c.scanned.result)
     (same_flat c.self.inside.dotted.flat c.self.inside.dotted.rules c.self.inside.lists c.self.inside.kernels c.args.self.now c.self.view_is)
     (subst (λ (l : List Item). IsListOf (λ item. Contains l item × WaitsForTerminal c.self.inside.dotted.flat item) c.scanned.result)
-    (items_here c.self.inside.dotted.flat c.self.inside.dotted.rules c.self.inside.lists c.self.inside.kernels c.args.self.now c.self.view_is c.self.inside.count c.self.invariant c.args.j c.requires c.kernel-kernel.result.begun c.kernel-kernel.ensures.begun
+    (items_here c.self.inside.dotted.flat c.self.inside.dotted.rules c.self.inside.lists c.self.inside.kernels c.args.self.now c.self.view_is c.self.inside.count c.self.invariant.0 c.args.j c.requires c.kernel-kernel.result.begun c.kernel-kernel.ensures.begun
     (placed_all c.kernel-kernel.result.origins.now c.kernel-kernel.result.slotted.now) (list_at c.self.inside.lists c.kernel-kernel.result.begun) c.kernel-kernel.ensures.packed refl) c.scanned.ensures)
