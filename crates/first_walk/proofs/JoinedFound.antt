@@ -49,9 +49,9 @@ module _ (r : Recognizer) (parts : List Part) (joined : List Joined) (are : AreJ
 
   rises : (i j : ℕ) → i < j → j < length mine → (get_or mine i no_joined).part < (get_or mine j no_joined).part
   rises i j lt below = nat_less _ _ (
-      rest_less (λ (z : Joined). z.rule) (λ (z : Joined). z.dot) (λ (z : Joined). z.origin) (λ (y z : Joined). nat_cmp y.part z.part) mine sorted
-      (λ p q a b. ap (λ (z : Item). z.rule) (same_item p q a b)) (λ p q a b. ap (λ (z : Item). z.dot) (same_item p q a b)) i j no_joined lt below
-      (ap (λ (z : Item). z.origin) (same_item (get_or mine i no_joined) (get_or mine j no_joined) (Contains-get_or mine i no_joined (omega arith)) (Contains-get_or mine j no_joined below)))
+      rest_less (λ (z : Joined). z.origin) (λ (z : Joined). z.rule) (λ (z : Joined). z.dot) (λ (y z : Joined). nat_cmp y.part z.part) mine sorted
+      (λ p q a b. ap (λ (z : Item). z.origin) (same_item p q a b)) (λ p q a b. ap (λ (z : Item). z.rule) (same_item p q a b)) i j no_joined lt below
+      (ap (λ (z : Item). z.dot) (same_item (get_or mine i no_joined) (get_or mine j no_joined) (Contains-get_or mine i no_joined (omega arith)) (Contains-get_or mine j no_joined below)))
       )
 
   pub no_match : length mine ≡ 0 → HasNoMatch r parts symbol item

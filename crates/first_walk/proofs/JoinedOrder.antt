@@ -5,7 +5,7 @@ use Rattle.std.specs.Ordering.{nat_cmp, eq_by_cmp}
 use Rattle.std.specs.Cmp.{IsTotalOrder, IsEquivalence, unsigned_ties, both_tied, eq_by_cmp_equiv}
 use Rattle.std.specs.List.Sorted.{IsPartitionedBy, IsStrictlySortedBy}
 use Rattle.std.proofs.lemmas.Cmp.{then_total, on_total, nat_cmp_total}
-use Rattle.std.proofs.lemmas.Bool.{cases_lt, and_parts, eqb-true, eq-eqb, ltb-true, lt-ltb}
+use Rattle.std.proofs.lemmas.Bool.{cases_lt, false_from_ne_true, and_parts, eqb-true, eq-eqb, ltb-true, lt-ltb}
 use Rattle.std.proofs.lemmas.Map.Keys.{Less-from_sorted}
 use Rattle.std.proofs.lemmas.Option.{slice_get-get_or}
 use Rattle.finite_sets.proofs.Lists.{got_item, got_at}
@@ -25,32 +25,32 @@ no_joined = record { rule = 0; dot = 0; origin = 0; part = 0 }
 
 pub joined_total : IsTotalOrder joined_cmp
 joined_total =
-    then_total (on_total (λ (j : Joined). j.rule) nat_cmp_total)
-    (then_total (on_total (λ (j : Joined). j.dot) nat_cmp_total)
-    (then_total (on_total (λ (j : Joined). j.origin) nat_cmp_total) (on_total (λ (j : Joined). j.part) nat_cmp_total)))
+    then_total (on_total (λ (j : Joined). j.origin) nat_cmp_total)
+    (then_total (on_total (λ (j : Joined). j.rule) nat_cmp_total)
+    (then_total (on_total (λ (j : Joined). j.dot) nat_cmp_total) (on_total (λ (j : Joined). j.part) nat_cmp_total)))
 
 abbrev pub same_joined : Joined → Joined → Bool
-same_joined x y = (x.rule == y.rule) && ((x.dot == y.dot) && ((x.origin == y.origin) && (x.part == y.part)))
+same_joined x y = (x.origin == y.origin) && ((x.rule == y.rule) && ((x.dot == y.dot) && (x.part == y.part)))
 
 pub joined_ties : (x y : Joined) → same_joined x y ≡ eq_by_cmp joined_cmp x y
 joined_ties x y =
-    both_tied _ _ (nat_cmp x.rule y.rule) _ (unsigned_ties x.rule y.rule)
-    (both_tied _ _ (nat_cmp x.dot y.dot) _ (unsigned_ties x.dot y.dot)
-    (both_tied _ _ (nat_cmp x.origin y.origin) (nat_cmp x.part y.part) (unsigned_ties x.origin y.origin) (unsigned_ties x.part y.part)))
+    both_tied _ _ (nat_cmp x.origin y.origin) _ (unsigned_ties x.origin y.origin)
+    (both_tied _ _ (nat_cmp x.rule y.rule) _ (unsigned_ties x.rule y.rule)
+    (both_tied _ _ (nat_cmp x.dot y.dot) (nat_cmp x.part y.part) (unsigned_ties x.dot y.dot) (unsigned_ties x.part y.part)))
 
 pub joined_equiv : IsEquivalence same_joined
 joined_equiv = subst IsEquivalence (λ i x y. sym (joined_ties x y) i) (eq_by_cmp_equiv joined_total)
 
 pub joined_exact : (x y : Joined) → same_joined x y ≡ true → x ≡ y
 joined_exact x y h =
-    let (a, h1) = and_parts (x.rule == y.rule) ((x.dot == y.dot) && ((x.origin == y.origin) && (x.part == y.part))) h in
-    let (b, h2) = and_parts (x.dot == y.dot) ((x.origin == y.origin) && (x.part == y.part)) h1 in
-    let (c, d) = and_parts (x.origin == y.origin) (x.part == y.part) h2 in
-    let ea = eqb-true x.rule y.rule a in
-    let eb = eqb-true x.dot y.dot b in
-    let ec = eqb-true x.origin y.origin c in
+    let (a, h1) = and_parts (x.origin == y.origin) ((x.rule == y.rule) && ((x.dot == y.dot) && (x.part == y.part))) h in
+    let (b, h2) = and_parts (x.rule == y.rule) ((x.dot == y.dot) && (x.part == y.part)) h1 in
+    let (c, d) = and_parts (x.dot == y.dot) (x.part == y.part) h2 in
+    let ea = eqb-true x.origin y.origin a in
+    let eb = eqb-true x.rule y.rule b in
+    let ec = eqb-true x.dot y.dot c in
     let ed = eqb-true x.part y.part d in
-    λ i. record { rule = ea i; dot = eb i; origin = ec i; part = ed i }
+    λ i. record { origin = ea i; rule = eb i; dot = ec i; part = ed i }
 
 -- those of a part are the items that wait for its symbol where it begins
 pub joined_are : (r : Recognizer) (number : ℕ) (p : Part) (waiting : List Item) → ((item : Item) → Contains waiting item ↔ (Contains (set_at r (p.end - p.length)) item × (after r.flat item ≡ Some p.symbol))) →
@@ -65,8 +65,8 @@ joined_are r number p waiting are j = (
 
 -- WHAT STANDS BEFORE AN ITEM
 
-abbrev IsBelow : (rule dot origin : ℕ) → Item → Type 0
-IsBelow rule dot origin item = (rule < item.rule) ⊎ ((rule ≡ item.rule) × ((dot < item.dot) ⊎ ((dot ≡ item.dot) × (origin < item.origin))))
+abbrev IsBelow : (origin rule dot : ℕ) → Item → Type 0
+IsBelow origin rule dot item = (origin < item.origin) ⊎ ((origin ≡ item.origin) × ((rule < item.rule) ⊎ ((rule ≡ item.rule) × (dot < item.dot))))
 
 cond_parts : (b x y : Bool) → cond b x y ≡ true → ((b ≡ true) × (x ≡ true)) ⊎ ((b ≡ false) × (y ≡ true))
 cond_parts true x y h = inl (refl, h)
@@ -80,37 +80,37 @@ cond_no : (b x y : Bool) → b ≡ false → y ≡ true → cond b x y ≡ true
 cond_no true x y e h = absurd (true≢false e)
 cond_no false x y e h = h
 
-below_of : (item : Item) (j : Joined) → before_item item j ≡ true → IsBelow j.rule j.dot j.origin item
-below_of item j h = elim (cond_parts (j.rule == item.rule) _ _ h) [
-  | inl (e, h1) ↦ inr (eqb-true j.rule item.rule e, elim (cond_parts (j.dot == item.dot) _ _ h1) [ inl (e1, h2) ↦ inr (eqb-true j.dot item.dot e1, ltb-true j.origin item.origin h2) | inr (n, h2) ↦ inl (ltb-true j.dot item.dot h2) ])
-  | inr (n, h1) ↦ inl (ltb-true j.rule item.rule h1)
+below_of : (item : Item) (j : Joined) → before_item item j ≡ true → IsBelow j.origin j.rule j.dot item
+below_of item j h = elim (cond_parts (j.origin == item.origin) _ _ h) [
+  | inl (e, h1) ↦ inr (eqb-true j.origin item.origin e, elim (cond_parts (j.rule == item.rule) _ _ h1) [ inl (e1, h2) ↦ inr (eqb-true j.rule item.rule e1, ltb-true j.dot item.dot h2) | inr (n, h2) ↦ inl (ltb-true j.rule item.rule h2) ])
+  | inr (n, h1) ↦ inl (ltb-true j.origin item.origin h1)
 ]
 
-before_of : (item : Item) (j : Joined) → IsBelow j.rule j.dot j.origin item → before_item item j ≡ true
+before_of : (item : Item) (j : Joined) → IsBelow j.origin j.rule j.dot item → before_item item j ≡ true
 before_of item j h = elim h [
-  | inl lt ↦ cond_no (j.rule == item.rule) _ _ (less_differs j.rule item.rule lt) (lt-ltb j.rule item.rule lt)
-  | inr (e, h1) ↦ cond_yes (j.rule == item.rule) _ _ (eq-eqb j.rule item.rule e) (elim h1 [
-    | inl lt ↦ cond_no (j.dot == item.dot) _ _ (less_differs j.dot item.dot lt) (lt-ltb j.dot item.dot lt)
-    | inr (e1, lt) ↦ cond_yes (j.dot == item.dot) _ _ (eq-eqb j.dot item.dot e1) (lt-ltb j.origin item.origin lt)
+  | inl lt ↦ cond_no (j.origin == item.origin) _ _ (less_differs j.origin item.origin lt) (lt-ltb j.origin item.origin lt)
+  | inr (e, h1) ↦ cond_yes (j.origin == item.origin) _ _ (eq-eqb j.origin item.origin e) (elim h1 [
+    | inl lt ↦ cond_no (j.rule == item.rule) _ _ (less_differs j.rule item.rule lt) (lt-ltb j.rule item.rule lt)
+    | inr (e1, lt) ↦ cond_yes (j.rule == item.rule) _ _ (eq-eqb j.rule item.rule e1) (lt-ltb j.dot item.dot lt)
   ])
 ]
 
 -- the first of two joined in order is no later than the second
-less_parts : (a b : Joined) → joined_cmp a b ≡ Less → (a.rule < b.rule) ⊎ ((a.rule ≡ b.rule) × ((a.dot < b.dot) ⊎ ((a.dot ≡ b.dot) × (a.origin ≤ b.origin))))
-less_parts a b h = elim (cases_lt a.rule b.rule) [
+less_parts : (a b : Joined) → joined_cmp a b ≡ Less → (a.origin < b.origin) ⊎ ((a.origin ≡ b.origin) × ((a.rule < b.rule) ⊎ ((a.rule ≡ b.rule) × (a.dot ≤ b.dot))))
+less_parts a b h = elim (cases_lt a.origin b.origin) [
   | inl lt ↦ inl lt
   | inr ge ↦
-      let le = then_at_most a.rule b.rule _ h in
-      let e : a.rule ≡ b.rule = omega arith in
-      let h1 = then_rest a.rule b.rule _ h e in
+      let le = then_at_most a.origin b.origin _ h in
+      let e : a.origin ≡ b.origin = omega arith in
+      let h1 = then_rest a.origin b.origin _ h e in
       inr (
         e,
-        elim (cases_lt a.dot b.dot) [
+        elim (cases_lt a.rule b.rule) [
           | inl lt ↦ inl lt
           | inr ge1 ↦
-              let le1 = then_at_most a.dot b.dot _ h1 in
-              let e1 : a.dot ≡ b.dot = omega arith in
-              inr (e1, then_at_most a.origin b.origin _ (then_rest a.dot b.dot _ h1 e1))
+              let le1 = then_at_most a.rule b.rule _ h1 in
+              let e1 : a.rule ≡ b.rule = omega arith in
+              inr (e1, then_at_most a.dot b.dot _ (then_rest a.rule b.rule _ h1 e1))
         ],
       )
 ]
@@ -123,7 +123,7 @@ module _ (joined : List Joined) (sorted : IsStrictlySortedBy joined_cmp joined) 
       let less = Less-from_sorted joined_cmp joined i k no_joined sorted lt below' in
       subst (λ z. joined_cmp z j ≡ Less) e (subst (λ z. joined_cmp (get_or joined i no_joined) z ≡ Less) e' less)
 
-  below_both : (p j : Joined) → joined_cmp p j ≡ Less → IsBelow j.rule j.dot j.origin item → IsBelow p.rule p.dot p.origin item
+  below_both : (p j : Joined) → joined_cmp p j ≡ Less → IsBelow j.origin j.rule j.dot item → IsBelow p.origin p.rule p.dot item
   below_both p j less below = elim (less_parts p j less) [
     | inl lt ↦ elim below [ inl l ↦ inl (omega arith) | inr (e, r) ↦ inl (omega arith) ]
     | inr (e, rest) ↦ elim below [
@@ -144,15 +144,26 @@ module _ (joined : List Joined) (sorted : IsStrictlySortedBy joined_cmp joined) 
     | inr ge ↦ let e : k ≡ i = omega arith in subst (λ z. before_item item (get_or joined z d) ≡ true) e h
   ]
 
+  -- where one stands before, so do all before it; where one does not, none behind it does
+  pub all_before : (k : ℕ) → k < length joined → before_item item (get_or joined k no_joined) ≡ true → (i : ℕ) (j : Joined) → i ≤ k → slice_get joined i ≡ Some j → before_item item j ≡ true
+  all_before k lt h i j le at =
+      let (below, e) = got_at joined i j no_joined (sym at) in
+      subst (λ z. before_item item z ≡ true) e (before_parted i k no_joined le lt h)
+
+  pub none_behind : (k : ℕ) → before_item item (get_or joined k no_joined) ≡ false → (i : ℕ) (j : Joined) → k ≤ i → slice_get joined i ≡ Some j → before_item item j ≡ false
+  none_behind k h i j le at =
+      let (below, e) = got_at joined i j no_joined (sym at) in
+      false_from_ne_true (before_item item j) (λ t. true≢false (sym (before_parted k i no_joined le below (subst (λ z. before_item item z ≡ true) (sym e) t)) ∙ h))
+
   module _ (first past : ℕ) (order : first ≤ past) (bound : past ≤ length joined) (behind : (k : ℕ) (j : Joined) → first ≤ k → slice_get joined k ≡ Some j → before_item item j ≡ false)
       (before : (k : ℕ) (j : Joined) → k < first → slice_get joined k ≡ Some j → before_item item j ≡ true)
       (same : (k : ℕ) (j : Joined) → first ≤ k → k < past → slice_get joined k ≡ Some j → item_of_joined j ≡ item) (other : (j : Joined) → slice_get joined past ≡ Some j → ¬ (item_of_joined j ≡ item)) where
     from_first : (k : ℕ) (j : Joined) → slice_get joined k ≡ Some j → item_of_joined j ≡ item → first ≤ k
     from_first k j at e = elim (cases_lt k first) [
       | inl lt ↦
-          let r : j.rule ≡ item.rule = ap (λ (z : Item). z.rule) e in
-          let d : j.dot ≡ item.dot = ap (λ (z : Item). z.dot) e in
-          let o : j.origin ≡ item.origin = ap (λ (z : Item). z.origin) e in
+          let r : j.origin ≡ item.origin = ap (λ (z : Item). z.origin) e in
+          let d : j.rule ≡ item.rule = ap (λ (z : Item). z.rule) e in
+          let o : j.dot ≡ item.dot = ap (λ (z : Item). z.dot) e in
           elim (below_of item j (before k j lt at)) [ inl l ↦ absurd (omega arith) | inr (q, h) ↦ elim h [ inl l ↦ absurd (omega arith) | inr (q1, l) ↦ absurd (omega arith) ] ]
       | inr ge ↦ ge
     ]
@@ -170,25 +181,25 @@ module _ (joined : List Joined) (sorted : IsStrictlySortedBy joined_cmp joined) 
           ]
     ]
       where
-        r : j.rule ≡ item.rule
-        r = ap (λ (z : Item). z.rule) e
+        r : j.origin ≡ item.origin
+        r = ap (λ (z : Item). z.origin) e
 
-        d : j.dot ≡ item.dot
-        d = ap (λ (z : Item). z.dot) e
+        d : j.rule ≡ item.rule
+        d = ap (λ (z : Item). z.rule) e
 
-        o : j.origin ≡ item.origin
-        o = ap (λ (z : Item). z.origin) e
+        o : j.dot ≡ item.dot
+        o = ap (λ (z : Item). z.dot) e
 
         go : (p : Joined) → slice_get joined past ≡ Some p → joined_cmp p j ≡ Less → ⊥
         go p here less =
-            let not_below : IsBelow p.rule p.dot p.origin item → ⊥ = λ b. true≢false (sym (before_of item p b) ∙ behind past p order here) in
+            let not_below : IsBelow p.origin p.rule p.dot item → ⊥ = λ b. true≢false (sym (before_of item p b) ∙ behind past p order here) in
             elim (less_parts p j less) [
               | inl lt ↦ not_below (inl (omega (arith, r)))
               | inr (e1, h) ↦ elim h [
                 | inl lt ↦ not_below (inr (e1 ∙ r, inl (omega (arith, d))))
-                | inr (e2, le) ↦ elim (cases_lt p.origin item.origin) [
+                | inr (e2, le) ↦ elim (cases_lt p.dot item.dot) [
                   | inl lt ↦ not_below (inr (e1 ∙ r, inr (e2 ∙ d, lt)))
-                  | inr ge ↦ let q : p.origin ≡ item.origin = omega (arith, o) in other p here (λ i. record { rule = (e1 ∙ r) i; dot = (e2 ∙ d) i; origin = q i })
+                  | inr ge ↦ let q : p.dot ≡ item.dot = omega (arith, o) in other p here (λ i. record { rule = (e2 ∙ d) i; dot = q i; origin = (e1 ∙ r) i })
                 ]
               ]
             ]

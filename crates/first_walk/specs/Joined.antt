@@ -1,5 +1,5 @@
 -- Items that wait where parts begin, each with the number of a part that it waits for.
-use Rattle.std.specs.Prelude.{◌≡◌, ◌≢◌, ℕ, ◌<◌, ◌-◌, ◌↔◌, Bool, cond, ◌==◌, nat_lt, IsTrue, List, Some, length, Contains}
+use Rattle.std.specs.Prelude.{◌≡◌, ◌≢◌, ℕ, ◌<◌, ◌≤◌, ◌-◌, ◌↔◌, Bool, true, false, cond, ◌==◌, nat_lt, IsTrue, List, Some, length, slice_get, Contains}
 use Rattle.std.specs.List.Sorted.{IsStrictlySortedBy}
 use Rattle.std.specs.declared.cmp.Ordering.{Ordering}
 use Rattle.std.specs.Ordering.{ordering_then, nat_cmp}
@@ -13,14 +13,20 @@ use Rattle.first_walk.specs.declared.joined.Found.{Found}
 use Rattle.first_walk.specs.Place.{IsFirstMatch, HasOtherStart}
 
 abbrev pub joined_cmp : Joined → Joined → Ordering
-joined_cmp a b = ordering_then (nat_cmp a.rule b.rule) (ordering_then (nat_cmp a.dot b.dot) (ordering_then (nat_cmp a.origin b.origin) (nat_cmp a.part b.part)))
+joined_cmp a b = ordering_then (nat_cmp a.origin b.origin) (ordering_then (nat_cmp a.rule b.rule) (ordering_then (nat_cmp a.dot b.dot) (nat_cmp a.part b.part)))
 
 abbrev pub item_of_joined : Joined → Item
 item_of_joined j = record { rule = j.rule; dot = j.dot; origin = j.origin }
 
 -- its item stands before that one
 abbrev pub before_item : Item → Joined → Bool
-before_item item j = cond (j.rule == item.rule) (cond (j.dot == item.dot) (nat_lt j.origin item.origin) (nat_lt j.dot item.dot)) (nat_lt j.rule item.rule)
+before_item item j = cond (j.origin == item.origin) (cond (j.rule == item.rule) (nat_lt j.dot item.dot) (nat_lt j.rule item.rule)) (nat_lt j.origin item.origin)
+
+-- those whose items stand before that one end there
+pub record IsFromItem (joined : List Joined) (item : Item) (first : ℕ) : Type 0 where
+  pub bound : first ≤ length joined
+  pub before : (k : ℕ) (j : Joined) → k < first → slice_get joined k ≡ Some j → before_item item j ≡ true
+  pub behind : (k : ℕ) (j : Joined) → first ≤ k → slice_get joined k ≡ Some j → before_item item j ≡ false
 
 -- its item waits where the part begins, for the part's symbol
 abbrev pub IsJoinedTo : Recognizer → Part → Joined → Type 0

@@ -7,7 +7,7 @@ ghost use Rattle.earley_sets.specs.Recognizer.{earleme_of};
 ghost use Rattle.forest_parts.specs.Lists.{between};
 ghost use Rattle.forest_parts.specs.Parts.{part_at};
 ghost use Rattle.first_walk.specs.declared.joined.Joined.{Joined as TheJoined};
-ghost use Rattle.first_walk.specs.Joined.{joined_cmp, item_of_joined, before_item, IsJoinedTo, AreJoined, HasOtherLength, IsFound};
+ghost use Rattle.first_walk.specs.Joined.{joined_cmp, item_of_joined, before_item, IsFromItem, IsJoinedTo, AreJoined, HasOtherLength, IsFound};
 ghost use Rattle.first_walk.specs.Place.{HavePlaces, HasNoMatch};
 
 use earley_sets::Recce;
@@ -16,12 +16,12 @@ use recognizer_model::Item;
 use slif_base::number;
 use std::alloc::AllocError;
 
-/// An item that waits where a part begins, for its symbol.
+/// An item that waits where a part begins, for its symbol. They go by their origins first, as a walk does.
 #[derive(Clone, Copy, PartialEq, Eq, PartialOrd, Ord)]
 pub struct Joined {
+    pub origin: u32,
     pub rule: u32,
     pub dot: u32,
-    pub origin: u32,
     pub part: u32,
 }
 
@@ -38,9 +38,9 @@ fn put_one(item: Item, number: u32, joined: &mut Vec<Joined>) -> Result<(), Allo
         (Contains joined.old.items j ⊎ ((j.part ≡ number) × (item_of_joined j ≡ item)))) }
 {
     joined.push(Joined {
+        origin: item.origin,
         rule: item.rule,
         dot: item.dot,
-        origin: item.origin,
         part: number,
     })?;
     Ok(())
@@ -65,12 +65,14 @@ fn put_joined(
     Ok(())
 }
 
-fn sort(joined: &mut Vec<Joined>)
-    ensures sorted { IsStrictlySortedBy joined_cmp joined.new.items }
-    ensures same { (j : TheJoined) → Contains joined.new.items j ↔ Contains joined.old.items j }
+// Sorts them, each once. Parts go by their lengths, so that origins mostly fall all along: such a run a stable sort takes as it is.
+fn sort(joined: &mut Vec<Joined>) -> Result<(), AllocError>
+    ensures sorted { OnOk result (IsStrictlySortedBy joined_cmp joined.new.items) }
+    ensures same { OnOk result ((j : TheJoined) → Contains joined.new.items j ↔ Contains joined.old.items j) }
 {
-    joined.sort_unstable();
+    joined.sort()?;
     joined.dedup();
+    Ok(())
 }
 
 /// Lists the items that wait where the parts begin, in order.
@@ -87,7 +89,7 @@ pub fn list_joined(
         let at = number(k)?;
         put_joined(recce, parts[k], at, joined)?;
     }
-    sort(joined);
+    sort(joined)?;
     Ok(())
 }
 
@@ -100,33 +102,46 @@ fn joined_between(joined: &[Joined], first: usize, past: usize) -> &[Joined]
 }
 
 // Whether its item stands before another.
+#[inline(always)]
 fn is_before(joined: Joined, item: Item) -> bool
     ensures { result ≡ before_item item joined }
 {
-    if joined.rule != item.rule {
-        joined.rule < item.rule
-    } else if joined.dot != item.dot {
-        joined.dot < item.dot
-    } else {
+    if joined.origin != item.origin {
         joined.origin < item.origin
+    } else if joined.rule != item.rule {
+        joined.rule < item.rule
+    } else {
+        joined.dot < item.dot
     }
 }
 
+#[inline(always)]
 fn has_item(joined: Joined, item: Item) -> bool
     ensures { IsTrue result ↔ (item_of_joined joined ≡ item) }
 {
     joined.origin == item.origin && joined.dot == item.dot && joined.rule == item.rule
 }
 
-// How many have items that stand before another.
-fn count_before(joined: &[Joined], item: Item) -> usize
+// Whether those with items before another end at a place, which is not the end.
+#[inline(always)]
+fn is_first(joined: &[Joined], item: Item, first: usize) -> bool
     requires { IsStrictlySortedBy joined_cmp joined.now }
-    ensures bound { result ≤ length joined.now }
-    ensures before { (k : ℕ) (j : TheJoined) → k < result → slice_get joined.now k ≡ Some j →
-        before_item item j ≡ true }
-    ensures behind { (k : ℕ) (j : TheJoined) → result ≤ k → slice_get joined.now k ≡ Some j →
-        before_item item j ≡ false }
+    ensures { IsTrue result → IsFromItem joined.now item first }
 {
+    if first >= joined.len() || is_before(joined[first], item) {
+        return false;
+    }
+    first == 0 || is_before(joined[first - 1], item)
+}
+
+// How many have items that stand before another. A guess is compared first.
+fn count_before(joined: &[Joined], item: Item, guess: usize) -> usize
+    requires { IsStrictlySortedBy joined_cmp joined.now }
+    ensures { IsFromItem joined.now item result }
+{
+    if is_first(joined, item, guess) {
+        return guess;
+    }
     joined.partition_point(|one| is_before(*one, item))
 }
 
@@ -147,16 +162,17 @@ fn end_of_item(joined: &[Joined], first: usize, item: Item) -> usize
     joined.len()
 }
 
-// Those that have an item.
-fn joined_of(joined: &[Joined], item: Item) -> &[Joined]
+// Those that have an item. Mostly they begin where the last ones end.
+fn joined_of<'j>(joined: &'j [Joined], item: Item, past: &mut usize) -> &'j [Joined]
     requires { IsStrictlySortedBy joined_cmp joined.now }
     ensures sorted { IsStrictlySortedBy joined_cmp result.now }
     ensures exact { (j : TheJoined) →
         Contains result.now j ↔ (Contains joined.now j × (item_of_joined j ≡ item)) }
 {
-    let first = count_before(joined, item);
-    let past = end_of_item(joined, first, item);
-    joined_between(joined, first, past)
+    let first = count_before(joined, item, *past);
+    let end = end_of_item(joined, first, item);
+    *past = end;
+    joined_between(joined, first, end)
 }
 
 fn length_at(parts: &[Part], k: usize) -> u32
@@ -186,6 +202,7 @@ pub fn find_joined(
     recce: &Recce<'_>,
     parts: &[Part],
     joined: &[Joined],
+    past: &mut usize,
     symbol: u32,
     item: Item,
 ) -> Option<Found>
@@ -194,7 +211,7 @@ pub fn find_joined(
     ensures some { IfSome result (λ found. IsFound recce.now parts.now symbol item found) }
     ensures none { IsNone result → HasNoMatch recce.now parts.now symbol item }
 {
-    let mine = joined_of(joined, item);
+    let mine = joined_of(joined, item, past);
     if mine.is_empty() {
         return None;
     }

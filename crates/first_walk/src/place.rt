@@ -33,6 +33,15 @@ use std::alloc::{AllocError, AllocFailed, Global};
 use std::hash::BuildHasherDefault;
 use std::sync::ledger::Ledger;
 
+/// Where parts and joined items were found last. Those of the next node mostly stand there, or right behind; that is compared first.
+#[derive(Clone, Copy)]
+pub struct Hints {
+    // where the parts of the last symbol begin
+    from: usize,
+    // where the joined items of the last node end
+    past: usize,
+}
+
 /// The edges and whole rules that end where a first node does, as far as it needs them, in the declared order; and what is used again for
 /// each place.
 #[derive(Drop)]
@@ -49,6 +58,7 @@ pub struct Place {
     pub is_joined: bool,
     // how many parts were tried
     tried: usize,
+    pub hints: Hints,
 }
 
 /// The cause of a node's first alternative, and whether there is no other.
@@ -74,10 +84,12 @@ pub fn new_place(alloc: Global) -> Place
         joined: Vec::new(alloc),
         is_joined: false,
         tried: 0,
+        hints: Hints { from: 0, past: 0 },
     }
 }
 
 /// Whether what ends there was listed last.
+#[inline(always)]
 pub fn is_listed(place: &Place, end: u32) -> bool
     ensures { IsTrue result ↔ ((first : TheKey) × (place.now.first ≡ Some first) × (end ≡ first.end)) }
 {
@@ -194,32 +206,26 @@ pub fn list_place<L: Ledger>(
     place.first = Some(first);
     place.is_joined = false;
     place.tried = 0;
+    place.hints.from = 0;
     Ok(())
 }
 
 // Of so few parts each is tried.
 const FEW: usize = 8;
 
-// How many parts are of a symbol.
-fn count_of(parts: &[Part], symbol: u32) -> usize {
-    let before = parts.partition_point(|part| part.symbol < symbol);
-    let past = parts.partition_point(|part| part.symbol <= symbol);
-    past.saturating_sub(before)
+// Whether as many parts were tried, with those of a symbol, as there are three times over: to join them costs some such rounds. Those of
+// the symbol stand from one place on.
+#[inline(always)]
+fn is_often_tried(parts: &[Part], symbol: u32, from: usize, tried: &mut usize) -> bool {
+    if is_of(parts, symbol, from.saturating_add(FEW)) {
+        let past = parts.partition_point(|part| part.symbol <= symbol);
+        *tried = tried.saturating_add(past.saturating_sub(from));
+    }
+    *tried / 2 > parts.len()
 }
 
-// Whether as many parts were tried, with those of a symbol, as there are five times over.
-fn is_often_tried(parts: &[Part], symbol: u32, tried: &mut usize) -> bool {
-    if parts.len() <= FEW {
-        return false;
-    }
-    let count = count_of(parts, symbol);
-    if count > FEW {
-        *tried = tried.saturating_add(count);
-    }
-    *tried / 4 > parts.len()
-}
-
-/// Lists the items that wait for the parts of a place, where these are many and are tried again and again.
+/// Lists the items that wait for the parts of a place, where these are many and are tried again and again, last for a symbol.
+#[inline(always)]
 pub fn join_often_tried(recce: &Recce<'_>, symbol: u32, place: &mut Place) -> Result<(), AllocError>
     requires places { HavePlaces recce.now place.old.parts.items }
     requires joined { AreJoinedIf place.old.is_joined recce.now place.old.parts.items
@@ -229,7 +235,9 @@ pub fn join_often_tried(recce: &Recce<'_>, symbol: u32, place: &mut Place) -> Re
     ensures joined { OnOk result (AreJoinedIf place.new.is_joined recce.now place.new.parts.items
         place.new.joined.items) }
 {
-    if place.is_joined || !is_often_tried(&place.parts, symbol, &mut place.tried) {
+    if place.is_joined
+        || !is_often_tried(&place.parts, symbol, place.hints.from, &mut place.tried)
+    {
         return Ok(());
     }
     list_joined(recce, &place.parts, &mut place.joined)?;
@@ -237,17 +245,34 @@ pub fn join_often_tried(recce: &Recce<'_>, symbol: u32, place: &mut Place) -> Re
     Ok(())
 }
 
-// How many parts stand before those of a symbol.
-fn count_before(parts: &[Part], symbol: u32) -> usize
+// Whether those of smaller symbols end at a place, which is not the end.
+#[inline(always)]
+fn is_from(parts: &[Part], symbol: u32, from: usize) -> bool
     requires sorted { IsStrictlySortedBy part_cmp parts.now }
     requires ends { EndTogether parts.now }
-    ensures bound { result ≤ length parts.now }
-    ensures from { IsFrom parts.now symbol result }
+    ensures { IsTrue result → IsFrom parts.now symbol from }
 {
+    if from >= parts.len() || parts[from].symbol < symbol {
+        return false;
+    }
+    from == 0 || parts[from - 1].symbol < symbol
+}
+
+// How many parts stand before those of a symbol. A guess is compared first.
+#[inline(always)]
+fn count_before(parts: &[Part], symbol: u32, guess: usize) -> usize
+    requires sorted { IsStrictlySortedBy part_cmp parts.now }
+    requires ends { EndTogether parts.now }
+    ensures { IsFrom parts.now symbol result }
+{
+    if is_from(parts, symbol, guess) {
+        return guess;
+    }
     parts.partition_point(|part| part.symbol < symbol)
 }
 
 // Whether the item is kept where a part begins.
+#[inline(always)]
 fn begins(recce: &Recce<'_>, part: Part, item: Item) -> bool
     requires part { part.length ≤ part.end }
     requires end { part.end ≤ earleme_of recce.now }
@@ -331,6 +356,7 @@ fn find(
     parts: &[Part],
     is_joined: bool,
     joined: &[Joined],
+    past: &mut usize,
     symbol: u32,
     item: Item,
     from: usize,
@@ -345,13 +371,14 @@ fn find(
     ensures none { IsNone result → HasNoMatch recce.now parts.now symbol item }
 {
     if is_joined {
-        find_joined(recce, parts, joined, symbol, item)
+        find_joined(recce, parts, joined, past, symbol, item)
     } else {
         find_tried(recce, parts, symbol, item, from)
     }
 }
 
 // Whether there is a part at a place, and it is of a symbol.
+#[inline(always)]
 fn is_of(parts: &[Part], symbol: u32, k: usize) -> bool
     ensures { IsTrue result ↔ ((k < length parts.now) × ((part_at parts.now k).symbol ≡ symbol)) }
 {
@@ -362,6 +389,7 @@ fn is_of(parts: &[Part], symbol: u32, k: usize) -> bool
 }
 
 // Whether a part is the only one of a symbol, which may not span nothing: then it is the cause, and nothing is to be looked up.
+#[inline(always)]
 fn is_only(recce: &Recce<'_>, parts: &[Part], symbol: u32, k: usize) -> bool
     requires { symbol < length recce.now.flat.symbols }
     ensures { IsTrue result → IsOnly recce.now.flat parts.now symbol k }
@@ -474,6 +502,7 @@ fn choose_at(
 }
 
 /// The symbol of a node's last part.
+#[inline(always)]
 pub fn last_symbol(recce: &Recce<'_>, key: NodeKey) -> u32
     requires rule { IsRule recce.now.flat key.rule }
     requires some { 0 < key.dot }
@@ -484,6 +513,7 @@ pub fn last_symbol(recce: &Recce<'_>, key: NodeKey) -> u32
 }
 
 /// The cause of the first alternative of a node that spans something. The items that wait for the parts may be listed.
+#[inline(always)]
 pub fn choose(
     recce: &Recce<'_>,
     w: &Written,
@@ -491,6 +521,7 @@ pub fn choose(
     parts: &[Part],
     is_joined: bool,
     joined: &[Joined],
+    hints: &mut Hints,
     symbol: u32,
     key: NodeKey,
 ) -> Chosen
@@ -503,7 +534,8 @@ pub fn choose(
     ensures chosen { IsChosen w.now ranking recce.now key result }
     ensures fits { IfSome result.part (λ p. Fits recce.now.flat key p) }
 {
-    let from = count_before(parts, symbol);
+    let from = count_before(parts, symbol, hints.from);
+    hints.from = from;
     if is_only(recce, parts, symbol, from) {
         return Chosen {
             part: Some(parts[from]),
@@ -516,7 +548,16 @@ pub fn choose(
         origin: key.origin,
     };
     let nothing = may_be_nothing(recce, key.end, item, symbol);
-    match find(recce, parts, is_joined, joined, symbol, item, from) {
+    match find(
+        recce,
+        parts,
+        is_joined,
+        joined,
+        &mut hints.past,
+        symbol,
+        item,
+        from,
+    ) {
         None => Chosen {
             part: None,
             alone: true,

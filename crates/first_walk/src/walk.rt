@@ -47,6 +47,7 @@ struct Walk {
 }
 
 // Puts the node of the parts before the last one, if there are any.
+#[inline(always)]
 fn put_before(key: NodeKey, start: u32, goals: &mut Vec<NodeKey>) -> Result<(), AllocError>
     requires { 0 < key.dot }
     ensures { OnOk result (goals.new.items ≡ goals.old.items ++ parts_before key start) }
@@ -83,6 +84,7 @@ fn put_nothing(flat: &Flat, key: NodeKey, walk: &mut Walk) -> Result<(), AllocEr
 
 // Writes the step of a whole rule, and puts its node.
 #[tactic(auto, using(crate::proofs::Backwards::backwards_push))]
+#[inline(always)]
 fn put_whole(
     flat: &Flat,
     rule: u32,
@@ -115,6 +117,7 @@ fn put_whole(
 
 // Writes the step of a token.
 #[tactic(auto, using(crate::proofs::Backwards::backwards_push))]
+#[inline(always)]
 fn put_token(symbol: u32, start: u32, end: u32, walk: &mut Walk) -> Result<(), AllocError>
     ensures goals { OnOk result (walk.new.goals ≡ walk.old.goals) }
     ensures steps { OnOk result (backwards walk.new.steps.items ≡ TokenStep symbol start end ∷ backwards walk.old.steps.items) }
@@ -142,6 +145,7 @@ fn put_empty(symbol: u32, walk: &mut Walk) -> Result<(), AllocError>
 }
 
 // Goes on where the last part of a node is a whole rule, or an edge.
+#[inline(always)]
 fn put_part(flat: &Flat, key: NodeKey, part: Part, walk: &mut Walk) -> Result<(), AllocError>
     requires some { 0 < key.dot }
     requires fits { Fits flat.now key part }
@@ -161,6 +165,7 @@ fn put_part(flat: &Flat, key: NodeKey, part: Part, walk: &mut Walk) -> Result<()
 }
 
 // Goes on from a node by its first alternative.
+#[inline(always)]
 fn put_chosen(flat: &Flat, key: NodeKey, chosen: Chosen, walk: &mut Walk) -> Result<(), AllocError>
     requires some { 0 < key.dot }
     requires rule { key.rule < length flat.now.rules }
@@ -181,6 +186,7 @@ fn put_chosen(flat: &Flat, key: NodeKey, chosen: Chosen, walk: &mut Walk) -> Res
 }
 
 // Lists what ends where a node does, if that was not done.
+#[inline(always)]
 fn come_to<L: Ledger>(
     alloc: Global,
     recce: &Recce<'_>,
@@ -219,6 +225,7 @@ fn come_to<L: Ledger>(
 }
 
 // The cause of a node's first alternative. What ends where the node does is listed first, if that was not done.
+#[inline(always)]
 fn choose_in<L: Ledger>(
     alloc: Global,
     recce: &Recce<'_>,
@@ -253,20 +260,23 @@ fn choose_in<L: Ledger>(
 {
     come_to(alloc, recce, w, ranking, key, place, given, steps)?;
     let symbol = last_symbol(recce, key);
-    join_often_tried(recce, symbol, place)?;
-    Ok(choose(
+    let chosen = choose(
         recce,
         w,
         ranking,
         &place.parts,
         place.is_joined,
         &place.joined,
+        &mut place.hints,
         symbol,
         key,
-    ))
+    );
+    join_often_tried(recce, symbol, place)?;
+    Ok(chosen)
 }
 
 // Goes on from a node that spans something.
+#[inline(always)]
 fn go_spanning<L: Ledger>(
     alloc: Global,
     recce: &Recce<'_>,
@@ -380,6 +390,7 @@ fn go_from<L: Ledger>(
 }
 
 // Whether the walk may give up: it is to look for a derivation that is the only one, and there is another.
+#[inline(always)]
 fn is_over(only: bool, walk: &Walk) -> bool
     ensures { result ≡ (only && not walk.now.alone) }
 {

@@ -29,14 +29,14 @@ loop-k-preserved c =
 pub returns : goal.returns
 returns c = record {
   exact = λ j. (
-    λ h. elim ((c.loop-k.invariant j).0 ((c.sort.ensures.same j).0 h)) [
+    λ h. elim ((c.loop-k.invariant j).0 ((c.in_ok-sort.ensures.same j).0 h)) [
       | inl n ↦ absurd (Contains-none j n)
       | inr (k, lt, (below, e, is)) ↦ (subst (λ z. z < length c.args.parts.now) (sym e) below, subst (λ z. IsJoinedTo c.args.recce.now (part_at c.args.parts.now z) j) (sym e) is)
     ],
     λ (lt, is). (
         let f = c.loop-k-test.false in
-        (c.sort.ensures.same j).1 ((c.loop-k.invariant j).1 (inr (j.part, omega arith, (lt, refl, is))))
+        (c.in_ok-sort.ensures.same j).1 ((c.loop-k.invariant j).1 (inr (j.part, omega arith, (lt, refl, is))))
         ),
   );
-  sorted = c.sort.ensures.sorted;
+  sorted = c.in_ok-sort.ensures.sorted;
 }

@@ -10,11 +10,11 @@ use Rattle.first_walk.proofs.joined.sort.Goals as goal
 
 pub returns-clause-sorted : goal.returns-clause-sorted
 returns-clause-sorted c =
-    subst (λ (l : List Joined). IsStrictlySortedBy joined_cmp l) (sym (dedup_is same_joined c.sort_unstable.new.self.items c.dedup.new.self.items c.dedup.ensures.filtered)) (IsStrictlySortedBy-dedup joined_total joined_ties c.sort_unstable.new.self.items c.sort_unstable.ensures.sorted)
+    subst (λ (l : List Joined). IsStrictlySortedBy joined_cmp l) (sym (dedup_is same_joined c.sort.new.self.items c.dedup.new.self.items c.dedup.ensures.filtered)) (IsStrictlySortedBy-dedup joined_total joined_ties c.sort.new.self.items c.in_ok-sort.ensures.sorted)
 
 pub returns-clause-same : goal.returns-clause-same
 returns-clause-same c p =
-    let is = dedup_is same_joined c.sort_unstable.new.self.items c.dedup.new.self.items c.dedup.ensures.filtered in (
-      λ h. Contains-permutation c.sort_unstable.new.self.items c.args.joined.now.items p (IsPermutation-sym c.args.joined.now.items c.sort_unstable.new.self.items c.sort_unstable.ensures.permutation) (Contains-from_dedup same_joined c.sort_unstable.new.self.items p (subst (λ (l : List Joined). Contains l p) is h)),
-      λ h. subst (λ (l : List Joined). Contains l p) (sym is) (Contains-dedup joined_equiv joined_exact c.sort_unstable.new.self.items p (Contains-permutation c.args.joined.now.items c.sort_unstable.new.self.items p c.sort_unstable.ensures.permutation h)),
+    let is = dedup_is same_joined c.sort.new.self.items c.dedup.new.self.items c.dedup.ensures.filtered in (
+      λ h. Contains-permutation c.sort.new.self.items c.args.joined.now.items p (IsPermutation-sym c.args.joined.now.items c.sort.new.self.items c.in_ok-sort.ensures.permutation) (Contains-from_dedup same_joined c.sort.new.self.items p (subst (λ (l : List Joined). Contains l p) is h)),
+      λ h. subst (λ (l : List Joined). Contains l p) (sym is) (Contains-dedup joined_equiv joined_exact c.sort.new.self.items p (Contains-permutation c.args.joined.now.items c.sort.new.self.items p c.in_ok-sort.ensures.permutation h)),
     )

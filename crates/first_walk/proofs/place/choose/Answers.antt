@@ -8,12 +8,12 @@ use Rattle.first_walk.proofs.place.choose.Goals as goal
 pub returns-then-is_only-clause-chosen : goal.returns-then-is_only-clause-chosen
 returns-then-is_only-clause-chosen c =
     only_chosen c.args.w.now c.args.ranking c.args.recce.now c.requires.read c.args.key c.requires.used (c.args.key.dot - 1) c.args.symbol (dot_more c.args.w.now c.args.ranking c.args.recce.now c.requires.read c.args.key c.requires.used _ refl) c.requires.symbol
-    c.args.parts.now c.requires.listed c.count_before-from.result c.count_before-from.ensures.from (c.is_only.ensures c.if-is_only.true)
+    c.args.parts.now c.requires.listed c.count_before-from.result c.count_before-from.ensures (c.is_only.ensures c.if-is_only.true)
 
 pub returns-then-is_only-clause-fits : goal.returns-then-is_only-clause-fits
 returns-then-is_only-clause-fits c =
     only_fits c.args.w.now c.args.ranking c.args.recce.now c.requires.read c.args.key c.requires.used (c.args.key.dot - 1) c.args.symbol (dot_more c.args.w.now c.args.ranking c.args.recce.now c.requires.read c.args.key c.requires.used _ refl) c.requires.symbol
-    c.args.parts.now c.requires.listed c.count_before-from.result c.count_before-from.ensures.from (c.is_only.ensures c.if-is_only.true)
+    c.args.parts.now c.requires.listed c.count_before-from.result c.count_before-from.ensures (c.is_only.ensures c.if-is_only.true)
 
 pub returns-in-None-clause-chosen : goal.returns-in-None-clause-chosen
 returns-in-None-clause-chosen c =

@@ -12,13 +12,12 @@ last_symbol-symbol-requires-clause-rule g c = (used_within c.args.w.now c.args.r
 pub last_symbol-symbol-requires-clause-dot : goal.last_symbol-symbol-requires-clause-dot
 last_symbol-symbol-requires-clause-dot g c = (used_within c.args.w.now c.args.ranking c.args.recce.now c.requires.read c.args.key c.requires.used).parts
 
+pub choose-chosen-requires-clause-listed : goal.choose-chosen-requires-clause-listed
+choose-chosen-requires-clause-listed g c =
+    subst (λ (l : List Part). HaveLast c.args.w.now c.args.ranking c.args.recce.now c.args.key l) (sym c.deref.ensures.value)
+    (last_at c.args.w.now c.args.ranking c.args.recce.now c.requires.read c.args.key c.requires.used c.come_to.new.place.first c.come_to.new.place.parts.items c.in_ok-come_to.ensures.listed c.in_ok-come_to.ensures.here)
+
 pub join_often_tried-requires-clause-places : goal.join_often_tried-requires-clause-places
 join_often_tried-requires-clause-places g c =
     have_places c.args.w.now c.args.ranking c.args.recce.now c.requires.read c.args.key c.requires.used _ refl c.come_to.new.place.parts.items
     (last_at c.args.w.now c.args.ranking c.args.recce.now c.requires.read c.args.key c.requires.used c.come_to.new.place.first c.come_to.new.place.parts.items c.in_ok-come_to.ensures.listed c.in_ok-come_to.ensures.here)
-
-pub choose-requires-clause-listed : goal.choose-requires-clause-listed
-choose-requires-clause-listed g c =
-    subst (λ (l : List Part). HaveLast c.args.w.now c.args.ranking c.args.recce.now c.args.key l) (sym c.deref.ensures.value)
-    (subst (λ (l : List Part). HaveLast c.args.w.now c.args.ranking c.args.recce.now c.args.key l) (sym (ap (λ v. v.items) c.in_ok-join_often_tried.ensures.parts))
-    (last_at c.args.w.now c.args.ranking c.args.recce.now c.requires.read c.args.key c.requires.used c.come_to.new.place.first c.come_to.new.place.parts.items c.in_ok-come_to.ensures.listed c.in_ok-come_to.ensures.here))
