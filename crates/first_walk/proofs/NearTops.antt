@@ -1,11 +1,11 @@
 -- A topmost item of which the first node of a place asks.
-use Rattle.std.proofs.Common.{◌≡◌, ◌⊎◌, inl, inr, ℕ, ◌∷◌, [], ◌≤◌, List, Contains, refl, sym, subst}
+use Rattle.std.proofs.Common.{◌≡◌, ◌⊎◌, inr, ℕ, ◌∷◌, [], List, Contains, subst}
 use Rattle.grammar_model.specs.declared.Ranking.{Ranking}
 use Rattle.grammar_model.specs.Grammar.{Grammar}
 use Rattle.recognizer_model.specs.declared.Item.{Item}
 use Rattle.recognizer_model.specs.declared.NodeKey.{NodeKey}
 use Rattle.recognizer_model.specs.Below.{node_of}
-use Rattle.recognizer_model.specs.Items.{advanced, IsWhole}
+use Rattle.recognizer_model.specs.Items.{IsWhole}
 use Rattle.recognizer_model.specs.Flat.{lhs_of}
 use Rattle.recognizer_model.specs.Leo.{LeadsTo, IsLeo}
 use Rattle.earley_sets.specs.Recognizer.{Recognizer, edges_of, top_of}

@@ -1,5 +1,5 @@
 -- A used node, by the symbol of its last part: the first part that matches is known, or one is the only part of the symbol.
-use Rattle.std.proofs.Common.{◌≡◌, inl, inr, ◌↔◌, ℕ, suc, ◌<◌, ◌≤◌, ◌+◌, ◌-◌, Bool, true, false, List, Some, None, length, Contains, refl, sym, ◌∙◌, subst, arith}
+use Rattle.std.proofs.Common.{◌≡◌, inl, inr, ◌↔◌, ℕ, suc, ◌<◌, ◌-◌, Bool, true, false, List, Some, None, length, Contains, refl, sym, ◌∙◌, subst, arith}
 use Rattle.std.specs.Prelude.{IsTrue, IfSome}
 use Rattle.std.proofs.lemmas.Bool.{cases_lt, false≢true}
 use Rattle.grammar_model.specs.declared.Ranking.{Ranking}

@@ -1,6 +1,5 @@
 use Rattle.std.proofs.Common.{rules, ◌<◌, length}
-use Rattle.std.specs.Prelude.{IsTrue}
-use Rattle.first_walk.proofs.JoinedFound.{match_of, no_match, there, first_match, other_start}
+use Rattle.first_walk.proofs.JoinedFound.{match_of, no_match, first_match, other_start}
 use Rattle.first_walk.proofs.joined.find_joined.Goals as goal
 
 pub returns-then-is_empty-clause-none : goal.returns-then-is_empty-clause-none

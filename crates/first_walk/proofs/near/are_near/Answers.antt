@@ -1,9 +1,8 @@
-use Rattle.std.proofs.Common.{◌≡◌, ◌<◌, Some, inl, inr, slice_get, sym, subst, arith, ◌∷◌, []}
+use Rattle.std.proofs.Common.{◌≡◌, Some, inl, inr, slice_get, sym, subst, arith, ◌∷◌, []}
 use Rattle.std.proofs.lemmas.Bool.{cases_lt}
 use Rattle.std.proofs.lemmas.List.Elements.{Contains-get_or}
 use Rattle.finite_sets.proofs.Lists.{got_at}
 use Rattle.earley_sets.proofs.Membership.{found_at}
-use Rattle.recognizer_model.specs.declared.Item.{Item}
 use Rattle.forest_parts.specs.Unasked.{IsAskedFor}
 use Rattle.forest_parts.proofs.Gathering.{no_item}
 use Rattle.forest_parts.proofs.Tops.{top_rule}

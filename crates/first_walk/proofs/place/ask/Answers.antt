@@ -4,7 +4,7 @@ use Rattle.recognizer_model.specs.declared.Item.{Item}
 use Rattle.recognizer_model.specs.declared.NodeKey.{NodeKey}
 use Rattle.forest_parts.specs.Hidden.{RisesWithin}
 use Rattle.forest_parts.specs.Needed.{AreTops, IsBelowAsked}
-use Rattle.forest_parts.proofs.Tops.{top_bottom, bottoms_are, below_exact, below_counted, none_below, none_of}
+use Rattle.forest_parts.proofs.Tops.{top_bottom, bottoms_are, below_exact, below_counted, none_below}
 use Rattle.forest_parts.proofs.Taking.{unasked_none}
 use Rattle.first_walk.proofs.NearTops.{leads_of, told_near}
 use Rattle.first_walk.proofs.place.ask.Goals as goal

@@ -1,5 +1,4 @@
-use Rattle.std.proofs.Common.{◌-◌, false, Some, true, refl}
-use Rattle.forest_parts.specs.Parts.{part_at}
+use Rattle.std.proofs.Common.{◌-◌, refl}
 use Rattle.first_walk.specs.Place.{null_high}
 use Rattle.first_walk.proofs.Choices.{dot_more}
 use Rattle.first_walk.proofs.Only.{only_chosen, only_fits, none_found, some_found, found_fits}

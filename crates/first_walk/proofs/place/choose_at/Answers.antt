@@ -1,4 +1,4 @@
-use Rattle.std.proofs.Common.{◌≡◌, true, false, Some, refl, sym, ◌∙◌, subst, true≢false}
+use Rattle.std.proofs.Common.{◌≡◌, false, Some, refl, sym, ◌∙◌, subst, true≢false}
 use Rattle.grammar_model.specs.Grammar.{null_high_of, rule_at}
 use Rattle.recognizer_model.specs.Flat.{FlatGrammar, source_of}
 use Rattle.recognizer_model.specs.FlatForm.{source_number}

@@ -1,4 +1,4 @@
-use Rattle.std.proofs.Common.{◌≡◌, ◌<◌, ◌≤◌, List, length, refl, sym, ◌∙◌, ap, subst}
+use Rattle.std.proofs.Common.{List, refl, sym, subst}
 use Rattle.forest_parts.specs.declared.parts.Part.{Part}
 use Rattle.bocage.proofs.Splits.{used_within}
 use Rattle.first_walk.specs.Place.{HaveLast}
