@@ -13,7 +13,9 @@ use jagged::Jagged;
 use recognizer_model::Item;
 use std::alloc::{AllocError, Global};
 
-// At so many places something is noted.
+// There are so many places while few lists are noted, and later.
+const FEW: usize = 64;
+
 const PLACES: usize = 4096;
 
 // So many lists of items are noted at most, and so many at most of this size.
@@ -84,7 +86,7 @@ fn have_same_rules(items: &[Item], others: &[Item]) -> bool
 
 // One less than the number at a place.
 fn list_at_place(places: &[u32], place: usize) -> Option<u32> {
-    match places.get(place) {
+    match places.get(place & places.len().wrapping_sub(1)) {
         Some(after) => after.checked_sub(1),
         None => None,
     }
@@ -122,9 +124,11 @@ fn push_both(met: &mut Met, items: &[Item], number: u32) -> Result<(), AllocErro
 
 // Notes at a place that the last list stands there.
 fn put_place(places: &mut Vec<u32>, place: usize, count: usize) {
-    if places.len() <= place && places.resize(PLACES, 0).is_err() {
+    let size = if count < FEW / 2 { FEW } else { PLACES };
+    if places.len() < size && places.resize(size, 0).is_err() {
         return;
     }
+    let place = place & places.len().wrapping_sub(1);
     if place < places.len() && count < 4_294_967_296 {
         places[place] = count as u32;
     }

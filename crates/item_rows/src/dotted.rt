@@ -26,31 +26,12 @@ pub struct Span {
 /// The dotted rules of a flat grammar. Each is an item with the origin 0.
 pub struct DottedRules<'g> {
     flat: &'g Flat,
-    // in the order of rows
-    rules: Vec<Item>,
-    // where those of each rule begin, rule by rule
-    firsts: Vec<u32>,
-    // the numbers of the dotted rules, rule by rule
-    numbers: Vec<u32>,
-    // by the symbols' numbers
-    spans: Vec<Span>,
-    // those with the dot at the end
-    whole: Span,
-    // those that wait for terminals
-    scanned: Span,
+    dots: UnboundDots,
 }
 
 impl<'g> Drop for DottedRules<'g> {
     fn drop(self) {
-        let DottedRules {
-            flat: _,
-            rules: _,
-            firsts: _,
-            numbers: _,
-            spans: _,
-            whole: _,
-            scanned: _,
-        } = self;
+        let DottedRules { flat: _, dots: _ } = self;
     }
 }
 
@@ -59,10 +40,10 @@ impl<'g> Model for DottedRules<'g> {
 
     ghost Value = { Dotted };
 
-    ghost view = { λ d. record { flat = d.flat.now; rules = d.rules.items } };
+    ghost view = { λ d. record { flat = d.flat.now; rules = d.dots.rules.items } };
 
-    ghost invariant = { λ d. IsTable d.flat.now d.rules.items d.firsts.items d.numbers.items
-        d.spans.items d.whole d.scanned };
+    ghost invariant = { λ d. IsTable d.flat.now d.dots.rules.items d.dots.firsts.items
+        d.dots.numbers.items d.dots.spans.items d.dots.whole d.dots.scanned };
 }
 
 // How many items there are, if 32 bits can tell it.
@@ -307,15 +288,15 @@ impl<'g> DottedRules<'g> {
         let spans = list_spans(alloc, flat, &rules)?;
         let whole = find_whole(flat, &rules);
         let scanned = find_scanned(flat, &rules);
-        Ok(DottedRules {
-            flat,
+        let dots = UnboundDots {
             rules,
             firsts,
             numbers,
             spans,
             whole,
             scanned,
-        })
+        };
+        Ok(DottedRules { flat, dots })
     }
 
     /// States what is always so of dotted rules.
@@ -325,14 +306,14 @@ impl<'g> DottedRules<'g> {
         ensures zero { (k : ℕ) → k < length self.now.rules →
             (dotted_at self.now.rules k).origin ≡ 0 }
     {
-        let _count = self.rules.len();
+        let _count = self.dots.rules.len();
     }
 
     /// The dotted rules in the order of rows.
     pub fn rules(&self) -> &[Item]
         ensures { result.now ≡ self.now.rules }
     {
-        &self.rules
+        &self.dots.rules
     }
 
     /// How many bounds there are for the numbers of dotted rules, those of spans among them.
@@ -340,7 +321,7 @@ impl<'g> DottedRules<'g> {
         ensures few { length self.now.rules < 4294967295 → result ≡ length self.now.rules + 1 }
         ensures many { 4294967295 ≤ length self.now.rules → result ≡ 0 }
     {
-        let count = self.rules.len();
+        let count = self.dots.rules.len();
         if count < 4_294_967_295 {
             count as u32 + 1
         } else {
@@ -354,8 +335,8 @@ impl<'g> DottedRules<'g> {
         ensures none { IsNone result →
             (¬ IsItem self.now.flat item) × ((n : ℕ) → ¬ IsPacked self.now.rules n item) }
     {
-        let number = find_number(&self.firsts, &self.numbers, item)?;
-        pack_with(&self.rules, number, item)
+        let number = find_number(&self.dots.firsts, &self.dots.numbers, item)?;
+        pack_with(&self.dots.rules, number, item)
     }
 
     /// How many symbols the grammar has.
@@ -371,7 +352,7 @@ impl<'g> DottedRules<'g> {
         ensures { IsSpan self.now.flat self.now.rules symbol result }
     {
         self.flat.known();
-        match span_at(&self.spans, symbol as usize) {
+        match span_at(&self.dots.spans, symbol as usize) {
             Some(span) => span,
             None => Span { start: 0, end: 0 },
         }
@@ -381,14 +362,14 @@ impl<'g> DottedRules<'g> {
     pub fn whole(&self) -> Span
         ensures { IsWholeSpan self.now.flat self.now.rules result }
     {
-        self.whole
+        self.dots.whole
     }
 
     /// The dotted rules that wait for terminals.
     pub fn scanned(&self) -> Span
         ensures { IsTerminalSpan self.now.flat self.now.rules result }
     {
-        self.scanned
+        self.dots.scanned
     }
 
     /// The same without the grammar.
@@ -396,34 +377,25 @@ impl<'g> DottedRules<'g> {
         ensures table { AreDotsOf self.entry.flat result }
         ensures rules { result.rules.items ≡ self.entry.rules }
     {
-        let DottedRules {
-            flat: _,
-            rules,
-            firsts,
-            numbers,
-            spans,
-            whole,
-            scanned,
-        } = self;
-        UnboundDots {
-            rules,
-            firsts,
-            numbers,
-            spans,
-            whole,
-            scanned,
-        }
+        let DottedRules { flat: _, dots } = self;
+        dots
     }
 }
 
 /// The dotted rules of a flat grammar, without the grammar.
 #[derive(Drop)]
 pub struct UnboundDots {
+    // in the order of rows
     rules: Vec<Item>,
+    // where those of each rule begin, rule by rule
     firsts: Vec<u32>,
+    // the numbers of the dotted rules, rule by rule
     numbers: Vec<u32>,
+    // by the symbols' numbers
     spans: Vec<Span>,
+    // those with the dot at the end
     whole: Span,
+    // those that wait for terminals
     scanned: Span,
 }
 
@@ -433,22 +405,6 @@ impl UnboundDots {
         requires { AreDotsOf flat.now self }
         ensures { result ≡ record { flat = flat.now; rules = self.rules.items } }
     {
-        let UnboundDots {
-            rules,
-            firsts,
-            numbers,
-            spans,
-            whole,
-            scanned,
-        } = self;
-        DottedRules {
-            flat,
-            rules,
-            firsts,
-            numbers,
-            spans,
-            whole,
-            scanned,
-        }
+        DottedRules { flat, dots: self }
     }
 }

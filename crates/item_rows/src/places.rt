@@ -1,6 +1,6 @@
 //! Where the items that wait for each symbol stand in rows of one kind, noted once for all of them.
-ghost use Rattle.std.specs.Prelude.{◌≡◌, ◌<◌, ◌≤◌, ◌^◌, length, IfOk};
-ghost use Rattle.item_rows.specs.Held.{shared_by};
+ghost use Rattle.std.specs.Prelude.{◌≡◌, ℕ, ◌<◌, ◌≤◌, ◌^◌, length, IfOk};
+ghost use Rattle.item_rows.specs.Held.{shared_by, AreHeld};
 ghost use Rattle.item_rows.specs.Noted.{StandsAt, AreBlocks, AreNoted};
 ghost use Rattle.kernels.specs.Shapes.{kernel_at};
 ghost use Rattle.kernels.specs.Slots.{Rises, dotted_of};
@@ -51,8 +51,8 @@ fn list_places(
     Ok(block)
 }
 
-/// Counts a row of its kind, and notes the kind if it is time and there is memory.
-pub fn note(
+// Counts a row of its kind, and notes the kind if it is time and there is memory.
+fn note(
     alloc: Global,
     noted: &mut Noted,
     dotted: &DottedRules<'_>,
@@ -76,5 +76,29 @@ pub fn note(
     let list = lists.list(kernel.begun as usize);
     if let Ok(block) = list_places(alloc, dotted, kernel.slotted, list) {
         let _put = noted.put(kind, block);
+    }
+}
+
+/// Counts each row where an item of the last row's own begins: that row was asked for what waits in it. Notes their kinds likewise.
+pub fn note_asked(
+    alloc: Global,
+    noted: &mut Noted,
+    dotted: &DottedRules<'_>,
+    kernels: &Kernels,
+    lists: &SharedLists,
+    last: usize,
+)
+    requires last { last < length kernels.now }
+    requires held { (count : ℕ) × AreHeld dotted.now.rules lists.now kernels.now count }
+    requires noted { AreNoted dotted.now.flat dotted.now.rules lists.now kernels.now
+        noted.old.blocks.items }
+    ensures { AreNoted dotted.now.flat dotted.now.rules lists.now kernels.now
+        noted.new.blocks.items }
+{
+    for origin in kernels.kernel(last).origins {
+        let origin = *origin as usize;
+        if origin < kernels.len() {
+            note(alloc, noted, dotted, kernels, lists, origin);
+        }
     }
 }

@@ -12,7 +12,7 @@ use crate::dotted::{DottedRules, UnboundDots};
 use crate::packed::{
     Row, at_places, contains, has_scanned, list_dotted, pack_row, row_of, scanned, waiting, whole,
 };
-use crate::places::note;
+use crate::places::note_asked;
 use grammar_core::Flat;
 use kernels::Kernels;
 use recognizer_model::Item;
@@ -248,7 +248,7 @@ impl<'g> Rows<'g> {
         let count = add(self.count, size)?;
         self.kernels.push(&self.next, begun)?;
         self.count = count;
-        note(
+        note_asked(
             *self.numbers.allocator(),
             &mut self.noted,
             &self.dotted,

@@ -5,14 +5,16 @@ ghost use Rattle.kernels.specs.Slots.{Rises, placed_all, IsPlaced, AreSlotted};
 use crate::slots::ORIGINS;
 use std::alloc::AllocError;
 
-// How many guesses there are.
+// How many guesses there are while there are few shapes, and later.
+const FEW: usize = 64;
+
 const GUESSES: usize = 4096;
 
 // Stands at slots whose origin is not known yet.
 const UNSET: u32 = u32::MAX;
 
-/// The place of the guess for packed items whose row shares a list.
-pub(crate) fn place_of(packed: &[u64], begun: u32) -> usize {
+/// The place of the guess for packed items whose row shares a list, if there are so many guesses.
+pub(crate) fn place_of(packed: &[u64], begun: u32, guesses: usize) -> usize {
     if packed.is_empty() {
         return 0;
     }
@@ -20,7 +22,7 @@ pub(crate) fn place_of(packed: &[u64], begun: u32) -> usize {
     let last = packed[packed.len() - 1] / ORIGINS;
     let count = packed.len() as u64;
     let key = begun as u64 ^ first.rotate_left(16) ^ last.rotate_left(32) ^ count.rotate_left(48);
-    (key.wrapping_mul(0x9e37_79b9_7f4a_7c15) >> 52) as usize
+    (key.wrapping_mul(0x9e37_79b9_7f4a_7c15) >> 52) as usize & guesses.wrapping_sub(1)
 }
 
 /// What is guessed at a place.
@@ -43,9 +45,15 @@ pub(crate) fn mend_guess(guesses: &mut Vec<u32>, place: usize, guess: u32, kind:
 
 // Sets what is guessed at a place, if there is memory for guesses.
 fn put_guess(guesses: &mut Vec<u32>, place: usize, kind: u32) {
-    if guesses.is_empty() && guesses.resize(GUESSES, 0).is_err() {
+    let count = if (kind as usize) < FEW / 2 {
+        FEW
+    } else {
+        GUESSES
+    };
+    if guesses.len() < count && guesses.resize(count, 0).is_err() {
         return;
     }
+    let place = place & guesses.len().wrapping_sub(1);
     if place < guesses.len() {
         guesses[place] = kind;
     }

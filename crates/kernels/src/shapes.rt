@@ -137,7 +137,7 @@ impl Kernels {
             self.old ++ (record { begun = begun; packed = packed.now; kind = kind }) ∷ [])) }
         ensures err { OnErr result (self.new ≡ self.old) }
     {
-        let place = place_of(packed, begun);
+        let place = place_of(packed, begun, self.guesses.len());
         let guess = guess_at(&self.guesses, place);
         let next = &mut self.next;
         let kind = kind_of(

@@ -1,4 +1,4 @@
-use Rattle.std.proofs.Common.{◌≡◌, ◌⊎◌, ◌∙◌, List, sym, ap, subst, ℕ, Some, slice_get}
+use Rattle.std.proofs.Common.{◌≡◌, ◌⊎◌, sym, subst, ℕ, Some, slice_get}
 use Rattle.std.specs.declared.vec.Vec.{Vec}
 use Rattle.std.specs.declared.alloc.Global.{Global}
 use Rattle.shared_lists.specs.declared.places.Places.{Places}

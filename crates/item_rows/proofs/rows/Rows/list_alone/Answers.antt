@@ -1,4 +1,4 @@
-use Rattle.std.proofs.Common.{◌↔◌, ◌<◌, sym, refl, subst, List, length, Contains, arith}
+use Rattle.std.proofs.Common.{◌↔◌, refl, subst, Contains, arith}
 use Rattle.recognizer_model.specs.declared.Item.{Item}
 use Rattle.recognizer_model.specs.Flat.{FlatGrammar}
 use Rattle.kernels.specs.Slots.{placed_all}
