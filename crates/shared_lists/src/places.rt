@@ -8,7 +8,7 @@ use std::alloc::{AllocError, Global};
 // So many places are noted, of all shapes together. They take a megabyte.
 const PLACES: usize = 65_536;
 
-// The rows of so many shapes are counted.
+// Of so many shapes it is counted how often their rows are asked for.
 const KINDS: usize = 4_096;
 
 /// From where to where some items stand, among a row's own and in the list that it shares.
@@ -23,7 +23,7 @@ pub struct Places {
 /// Places by the numbers of shapes and of symbols.
 #[derive(Drop)]
 pub struct Noted {
-    // how many rows were of each shape
+    // how often rows of each shape were asked for
     seen: Vec<u32>,
     // shape by shape, those of all symbols, or none
     blocks: Vec<Vec<Places>>,
@@ -68,8 +68,8 @@ impl Noted {
         place_at(block, symbol as usize)
     }
 
-    /// Counts a row of a shape, and tells whether so many places are to be noted for the shape now. That is when as many rows were of it:
-    /// then noting costs no more than looking for places did.
+    /// Counts that a row of a shape was asked for, and tells whether so many places are to be noted for the shape now. That is when as many
+    /// were: then noting costs no more than looking for places did.
     pub fn is_due(&mut self, kind: u32, count: usize) -> bool
         ensures { self.new.blocks ≡ self.old.blocks }
     {
