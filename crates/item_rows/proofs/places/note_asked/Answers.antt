@@ -12,7 +12,7 @@ note-requires-clause-rises c = (c.requires.held.1.rows _ (let t = c.if-origin-le
 
 pub loop-origin-preserved : goal.loop-origin-preserved
 loop-origin-preserved c = elim c.if-origin-len.branch [
-  then-origin-len w ↦ subst (λ (n : Noted). AreNoted c.args.dotted.now.flat c.args.dotted.now.rules c.args.lists.now c.args.kernels.now n.blocks.items) (sym w.noted-is) w.note.ensures
+  | then-origin-len w ↦ subst (λ (n : Noted). AreNoted c.args.dotted.now.flat c.args.dotted.now.rules c.args.lists.now c.args.kernels.now n.blocks.items) (sym w.noted-is) w.note.ensures
   | else-origin-len w ↦ subst (λ (n : Noted). AreNoted c.args.dotted.now.flat c.args.dotted.now.rules c.args.lists.now c.args.kernels.now n.blocks.items) (sym w.noted-is) c.loop-origin.invariant
 ]
 
