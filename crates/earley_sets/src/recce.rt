@@ -277,7 +277,7 @@ impl<'g> Model for Recce<'g> {
 /// speaks of it.
 #[derive(Clone, Copy)]
 pub struct Alike {
-    pub kind: u32,
+    pub list: u32,
     pub place: u32,
 }
 
@@ -455,8 +455,8 @@ impl<'g> Recce<'g> {
     {
         let last = self.rows.len() - 1;
         let place = place_alike(&self.expected, last as u32);
-        let kind = list_number(&self.expected);
-        Alike { kind, place }
+        let list = list_number(&self.expected);
+        Alike { list, place }
     }
 
     /// Whether a tree of the start spans the edges up to the place.

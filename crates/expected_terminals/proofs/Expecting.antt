@@ -15,7 +15,7 @@ use Rattle.item_rows.specs.Kept.{WaitsForTerminal}
 use Rattle.expected_terminals.specs.Marks.{HasRoom, AreAtMost, IsAwaitedTerminal, AreTerminalsOf}
 use Rattle.expected_terminals.specs.declared.marks.Marks.{Marks}
 use Rattle.expected_terminals.proofs.Marking.{got_set, got_contains}
-use Rattle.expected_terminals.specs.Expected.{place_told, list_told, KeepsLists, IsNote, AreNotes, WaitsByList, WaitAlike, IsOfListed, KnowsLast}
+use Rattle.expected_terminals.specs.Expected.{place_told, list_told, KeepsLists, NotesTerminals, AreNotes, WaitsByList, WaitAlike, IsOfListed, KnowsLast}
 use Rattle.expected_terminals.specs.declared.expected.Note.{Note}
 use Rattle.expected_terminals.specs.declared.expected.Expected.{Expected}
 
@@ -66,7 +66,7 @@ at_last g sets j terminals long are = subst (λ n. AreTerminalsOf g (row_at sets
 
 -- a note where sets and lists are added
 pub note_moved : (g : FlatGrammar) (sets others : List (List Item)) (lists more : List (List ℕ)) (note : Note) → ((j : ℕ) → j < length sets → (j < length others) × (row_at others j ≡ row_at sets j)) → KeepsLists lists more →
-    IsNote g sets lists note → IsNote g others more note
+    NotesTerminals g sets lists note → NotesTerminals g others more note
 note_moved g sets others lists more note kept keeps is = record {
   place = (kept note.place is.place).0;
   like = (kept note.like is.like).0;
@@ -110,25 +110,25 @@ each_some None P Q to h = tt
 each_some (Some note) P Q to h = to note h
 
 pub right_told : (g : FlatGrammar) (sets : List (List Item)) (lists : List (List ℕ)) (notes seen : List (Option Note)) (told : Option Note) → seen ≡ notes → AreNotes g sets lists notes → IfSome told (λ note. Contains seen (Some note)) →
-    IfSome told (IsNote g sets lists)
-right_told g sets lists notes seen told same are h = each_some told (λ note. Contains seen (Some note)) (IsNote g sets lists) (λ note in_seen. are note (subst (λ (l : List (Option Note)). Contains l (Some note)) same in_seen)) h
+    IfSome told (NotesTerminals g sets lists)
+right_told g sets lists notes seen told same are h = each_some told (λ note. Contains seen (Some note)) (NotesTerminals g sets lists) (λ note in_seen. are note (subst (λ (l : List (Option Note)). Contains l (Some note)) same in_seen)) h
 
 -- a note of the last set
-module _ (g : FlatGrammar) (sets : List (List Item)) (old lists : List (List ℕ)) (told : Option Note) (j : ℕ) (listed : List ℕ) (long : length sets ≡ j + 1) (right : IfSome told (IsNote g sets old))
+module _ (g : FlatGrammar) (sets : List (List Item)) (old lists : List (List ℕ)) (told : Option Note) (j : ℕ) (listed : List ℕ) (long : length sets ≡ j + 1) (right : IfSome told (NotesTerminals g sets old))
     (are : AreTerminalsOf g (row_at sets j) listed) where
   abbrev IsPlace : Note → Type 0
   IsPlace note = (note.place ≡ j) ⊎ ((other : Note) × (told ≡ Some other) × (list_at old other.list ≡ listed) × (note.place ≡ other.place))
 
   there : (note : Note) → IsPlace note → note.place < length sets
   there note (inl e) = omega arith
-  there note (inr (other, is_told, same, e)) = let h = (of_some told (IsNote g sets old) other right is_told).place in omega arith
+  there note (inr (other, is_told, same, e)) = let h = (of_some told (NotesTerminals g sets old) other right is_told).place in omega arith
 
   waits : (note : Note) → IsPlace note → AreTerminalsOf g (row_at sets note.place) listed
   waits note (inl e) = subst (λ n. AreTerminalsOf g (row_at sets n) listed) (sym e) are
   waits note (inr (other, is_told, same, e)) =
-      subst (λ n. AreTerminalsOf g (row_at sets n) listed) (sym e) (subst (λ (z : List ℕ). AreTerminalsOf g (row_at sets other.place) z) same (of_some told (IsNote g sets old) other right is_told).are)
+      subst (λ n. AreTerminalsOf g (row_at sets n) listed) (sym e) (subst (λ (z : List ℕ). AreTerminalsOf g (row_at sets other.place) z) same (of_some told (NotesTerminals g sets old) other right is_told).are)
 
-  pub note_new : (note : Note) → IsOfListed old lists listed told j note → IsNote g sets lists note
+  pub note_new : (note : Note) → IsOfListed old lists listed told j note → NotesTerminals g sets lists note
   note_new note is = record {
     place = there note is.place;
     like = (let l = is.like in omega arith);

@@ -30,7 +30,7 @@ pub record KeepsLists (old new : List (List ℕ)) : Type 0 where
   pub same : (k : ℕ) → k < length old → list_at new k ≡ list_at old k
 
 -- the list of a note has just the terminals that the sets of both its places wait for
-pub record IsNote (g : FlatGrammar) (sets : List (List Item)) (lists : List (List ℕ)) (note : Note) : Type 0 where
+pub record NotesTerminals (g : FlatGrammar) (sets : List (List Item)) (lists : List (List ℕ)) (note : Note) : Type 0 where
   pub place : note.place < length sets
   pub like : note.like < length sets
   pub list : note.list < length lists
@@ -38,7 +38,7 @@ pub record IsNote (g : FlatGrammar) (sets : List (List Item)) (lists : List (Lis
   pub are_like : AreTerminalsOf g (row_at sets note.like) (list_at lists note.list)
 
 abbrev pub AreNotes : FlatGrammar → (sets : List (List Item)) → (lists : List (List ℕ)) → List (Option Note) → Type 0
-AreNotes g sets lists notes = (note : Note) → Contains notes (Some note) → IsNote g sets lists note
+AreNotes g sets lists notes = (note : Note) → Contains notes (Some note) → NotesTerminals g sets lists note
 
 -- the row waits for terminals by those items alone that it shares, begun at its place
 abbrev pub WaitsByList : FlatGrammar → (row list : List Item) → (place : ℕ) → Type 0
@@ -60,5 +60,5 @@ pub record KnowsLast (g : FlatGrammar) (sets : List (List Item)) (expected : Exp
   pub room : HasRoom g expected.marks
   pub most : AreAtMost (length sets) expected.marks.rows.items
   pub notes : AreNotes g sets expected.lists expected.notes.items
-  pub note : (note : Note) → expected.last ≡ Some note → IsNote g sets expected.lists note
+  pub note : (note : Note) → expected.last ≡ Some note → NotesTerminals g sets expected.lists note
   pub last : AreTerminalsOf g (row_at sets (length sets - 1)) (list_told expected.lists expected.marks.listed.items expected.last)

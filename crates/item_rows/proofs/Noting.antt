@@ -19,7 +19,7 @@ use Rattle.shared_lists.proofs.Counting.{old_at, one_longer}
 use Rattle.item_rows.specs.declared.dotted.Span.{Span}
 use Rattle.item_rows.specs.Dotted.{AreWithin}
 use Rattle.item_rows.specs.Held.{shared_by, AreHeld}
-use Rattle.item_rows.specs.Noted.{StandsAt, ArePlaces, AreBlocks, AreNoted}
+use Rattle.item_rows.specs.Noted.{StandsAt, ArePlaces, AreBlocks, ArePlacesNoted}
 use Rattle.item_rows.proofs.Placing.{placed_within}
 
 -- numbers that are counted
@@ -113,13 +113,13 @@ module _ (slotted begun own others : List ℕ) (rise_slotted : Rises slotted) (r
   pub within_places : (origins : List ℕ) → AreSlotted origins slotted → AreWithin (placed_all origins slotted) begun span (placed_all origins own) others
   within_places origins are = placed_within origins slotted begun are span own others own_rises own_exact others_rise others_exact
 
-pub none_noted : (g : FlatGrammar) (rules : List Item) (lists : List (List ℕ)) (kernels : List Kernel) (blocks : List (Vec Places Global)) → blocks ≡ [] → AreNoted g rules lists kernels blocks
+pub none_noted : (g : FlatGrammar) (rules : List Item) (lists : List (List ℕ)) (kernels : List Kernel) (blocks : List (Vec Places Global)) → blocks ≡ [] → ArePlacesNoted g rules lists kernels blocks
 none_noted g rules lists kernels blocks e kind symbol p (block, at, has) = let none : None ≡ Some block = ap (λ (l : List (Vec Places Global)). slice_get l kind) (sym e) ∙ at in absurd (cc)
 
 -- what is noted for rows
-module _ (g : FlatGrammar) (rules : List Item) (lists : List (List ℕ)) (kernels : List Kernel) (blocks : List (Vec Places Global)) (noted : AreNoted g rules lists kernels blocks) where
+module _ (g : FlatGrammar) (rules : List Item) (lists : List (List ℕ)) (kernels : List Kernel) (blocks : List (Vec Places Global)) (noted : ArePlacesNoted g rules lists kernels blocks) where
   -- one list more
-  pub noted_shared : (list : List ℕ) (count : ℕ) → AreHeld rules lists kernels count → AreNoted g rules (lists ++ list ∷ []) kernels blocks
+  pub noted_shared : (list : List ℕ) (count : ℕ) → AreHeld rules lists kernels count → ArePlacesNoted g rules (lists ++ list ∷ []) kernels blocks
   noted_shared list count held kind symbol p h = let n = noted kind symbol p h in record {
     row = n.row;
     there = n.there;
@@ -128,7 +128,7 @@ module _ (g : FlatGrammar) (rules : List Item) (lists : List (List ℕ)) (kernel
   }
 
   -- one row more
-  pub noted_more : (kernel : Kernel) → AreNoted g rules lists (kernels ++ kernel ∷ []) blocks
+  pub noted_more : (kernel : Kernel) → ArePlacesNoted g rules lists (kernels ++ kernel ∷ []) blocks
   noted_more kernel kind symbol p h =
       let n = noted kind symbol p h in
       let same = old_at kernels kernel no_kernel n.row n.there in
@@ -156,7 +156,7 @@ module _ (g : FlatGrammar) (rules : List Item) (lists : List (List ℕ)) (kernel
 
     -- the places of its kind are put
     pub noted_put : (kind : ℕ) → kind ≡ (kernel_at kernels j).kind → (list : List ℕ) → list ≡ list_at lists number → (block : List Places) → AreBlocks g rules (dotted_of slotted) list block →
-        (new : List (Vec Places Global)) → ((k x : ℕ) (p : Places) → HasPlaces new k x p → HasPlaces blocks k x p ⊎ ((k ≡ kind) × (slice_get block x ≡ Some p))) → AreNoted g rules lists kernels new
+        (new : List (Vec Places Global)) → ((k x : ℕ) (p : Places) → HasPlaces new k x p → HasPlaces blocks k x p ⊎ ((k ≡ kind) × (slice_get block x ≡ Some p))) → ArePlacesNoted g rules lists kernels new
     noted_put kind e list is block all new put k x p h = elim (put k x p h) [
       | inl old ↦ noted k x p old
       | inr (same, has) ↦ record {

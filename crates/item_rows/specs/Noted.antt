@@ -36,5 +36,5 @@ pub record IsNoted (g : FlatGrammar) (rules : List Item) (lists : List (List ℕ
   pub kind_is : (kernel_at kernels row).kind ≡ kind
   pub are : ArePlaces g rules (dotted_of (kernel_at kernels row).packed) (shared_by lists (kernel_at kernels row)) symbol p
 
-abbrev pub AreNoted : FlatGrammar → List Item → (lists : List (List ℕ)) → List Kernel → List (Vec Places Global) → Type 0
-AreNoted g rules lists kernels blocks = (kind symbol : ℕ) (p : Places) → HasPlaces blocks kind symbol p → IsNoted g rules lists kernels kind symbol p
+abbrev pub ArePlacesNoted : FlatGrammar → List Item → (lists : List (List ℕ)) → List Kernel → List (Vec Places Global) → Type 0
+ArePlacesNoted g rules lists kernels blocks = (kind symbol : ℕ) (p : Places) → HasPlaces blocks kind symbol p → IsNoted g rules lists kernels kind symbol p

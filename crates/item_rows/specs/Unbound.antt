@@ -2,7 +2,7 @@
 use Rattle.recognizer_model.specs.Flat.{FlatGrammar}
 use Rattle.item_rows.specs.Dotted.{IsTable}
 use Rattle.item_rows.specs.Held.{rows_from, lists_from, kinds_of, AreHeld}
-use Rattle.item_rows.specs.Noted.{AreNoted}
+use Rattle.item_rows.specs.Noted.{ArePlacesNoted}
 use Rattle.item_rows.specs.Rows.{ItemRows}
 use Rattle.item_rows.specs.declared.dotted.UnboundDots.{UnboundDots}
 use Rattle.item_rows.specs.declared.rows.UnboundRows.{UnboundRows}
@@ -15,7 +15,7 @@ AreDotsOf g d = IsTable g d.rules.items d.firsts.items d.numbers.items d.spans.i
 pub record AreRowsOf (g : FlatGrammar) (r : UnboundRows) : Type 0 where
   pub dots : AreDotsOf g r.dots
   pub held : AreHeld r.dots.rules.items r.lists r.kernels r.count
-  pub noted : AreNoted g r.dots.rules.items r.lists r.kernels r.noted.blocks.items
+  pub noted : ArePlacesNoted g r.dots.rules.items r.lists r.kernels r.noted.blocks.items
 
 -- what they are seen as with the grammar
 abbrev pub rows_with : FlatGrammar → UnboundRows → ItemRows

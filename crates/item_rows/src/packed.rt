@@ -7,13 +7,14 @@ ghost use Rattle.recognizer_model.specs.Items.{after, IsWhole};
 ghost use Rattle.item_rows.specs.Kept.{AreItems, IsAwaited, WaitsForTerminal};
 ghost use Rattle.kernels.specs.Slots.{Rises, placed_all, dotted_of, AreSlotted};
 ghost use Rattle.item_rows.specs.Noted.{ArePlaces};
+ghost use Rattle.shared_lists.specs.Counted.{IsCount};
 ghost use Rattle.jagged.specs.Rows.{row_at as list_at};
 ghost use Rattle.item_rows.specs.Dotted.{unpacked, IsPackedRow, AreDotted, IsRowOfParts, AreWithin, row_items};
 
 use crate::dotted::{DottedRules, Span, begin, unpack};
 use kernels::{KernelRef, ORIGINS, slot_of};
 use recognizer_model::Item;
-use shared_lists::{Places, SharedLists};
+use shared_lists::{Places, SharedLists, count_while, count_while_from};
 use std::alloc::{AllocError, AllocFailed};
 use std::marker::Model;
 
@@ -135,25 +136,6 @@ pub fn list_dotted(packed: &[u64], numbers: &mut Vec<u32>) -> Result<(), AllocFa
     Ok(())
 }
 
-// Of so many numbers the first that is not below a bound is found by going through them, and of more by binary search.
-const FEW: usize = 8;
-
-// How many numbers are below a bound, of a few.
-fn count_few_below(packed: &[u64], bound: u64) -> usize
-    requires { Rises packed.now }
-    ensures bound { result ≤ length packed.now }
-    ensures below { (k : ℕ) → k < result → slice_index packed.now k < bound }
-    ensures above { (k : ℕ) → result ≤ k → k < length packed.now →
-        bound ≤ slice_index packed.now k }
-{
-    for place in 0..packed.len() {
-        if packed[place] >= bound {
-            return place;
-        }
-    }
-    packed.len()
-}
-
 /// How many numbers are below a bound.
 pub(crate) fn count_below(packed: &[u64], bound: u64) -> usize
     requires { Rises packed.now }
@@ -162,34 +144,17 @@ pub(crate) fn count_below(packed: &[u64], bound: u64) -> usize
     ensures above { (k : ℕ) → result ≤ k → k < length packed.now →
         bound ≤ slice_index packed.now k }
 {
-    if packed.len() <= FEW {
-        count_few_below(packed, bound)
-    } else {
-        packed.partition_point(|n| *n < bound)
-    }
+    count_while(packed, |n| *n < bound)
 }
 
-// How many numbers are below a bound, where so many are. Of those after them a few are gone through, and then all are searched.
+// How many numbers are below a bound, where so many are.
 fn count_below_from(packed: &[u64], start: usize, bound: u64) -> usize
     requires row { Rises packed.now }
     requires start { start ≤ length packed.now }
     requires below { (k : ℕ) → k < start → slice_index packed.now k < bound }
-    ensures bound { result ≤ length packed.now }
-    ensures below { (k : ℕ) → k < result → slice_index packed.now k < bound }
-    ensures above { (k : ℕ) → result ≤ k → k < length packed.now →
-        bound ≤ slice_index packed.now k }
+    ensures { IsCount packed.now bound result }
 {
-    let near = start.saturating_add(FEW).min(packed.len());
-    for place in start..near {
-        if packed[place] >= bound {
-            return place;
-        }
-    }
-    if near == packed.len() {
-        near
-    } else {
-        count_below(packed, bound)
-    }
+    count_while_from(packed, start, |n| *n < bound)
 }
 
 // The packed items whose dotted rules are of a span.

@@ -1,7 +1,7 @@
 //! Where the items that wait for each symbol stand in rows of one kind, noted once for all of them.
 ghost use Rattle.std.specs.Prelude.{◌≡◌, ℕ, ◌<◌, ◌≤◌, ◌^◌, length, IfOk};
 ghost use Rattle.item_rows.specs.Held.{shared_by, AreHeld};
-ghost use Rattle.item_rows.specs.Noted.{StandsAt, AreBlocks, AreNoted};
+ghost use Rattle.item_rows.specs.Noted.{StandsAt, AreBlocks, ArePlacesNoted};
 ghost use Rattle.kernels.specs.Shapes.{kernel_at};
 ghost use Rattle.kernels.specs.Slots.{Rises, dotted_of};
 
@@ -63,9 +63,9 @@ fn note(
     requires there { j < length kernels.now }
     requires list { (kernel_at kernels.now j).begun < length lists.now }
     requires rises { Rises (shared_by lists.now (kernel_at kernels.now j)) }
-    requires noted { AreNoted dotted.now.flat dotted.now.rules lists.now kernels.now
+    requires noted { ArePlacesNoted dotted.now.flat dotted.now.rules lists.now kernels.now
         noted.old.blocks.items }
-    ensures { AreNoted dotted.now.flat dotted.now.rules lists.now kernels.now
+    ensures { ArePlacesNoted dotted.now.flat dotted.now.rules lists.now kernels.now
         noted.new.blocks.items }
 {
     let kind = kernels.kind(j);
@@ -90,9 +90,9 @@ pub fn note_asked(
 )
     requires last { last < length kernels.now }
     requires held { (count : ℕ) × AreHeld dotted.now.rules lists.now kernels.now count }
-    requires noted { AreNoted dotted.now.flat dotted.now.rules lists.now kernels.now
+    requires noted { ArePlacesNoted dotted.now.flat dotted.now.rules lists.now kernels.now
         noted.old.blocks.items }
-    ensures { AreNoted dotted.now.flat dotted.now.rules lists.now kernels.now
+    ensures { ArePlacesNoted dotted.now.flat dotted.now.rules lists.now kernels.now
         noted.new.blocks.items }
 {
     for origin in kernels.kernel(last).origins {

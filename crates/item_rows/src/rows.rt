@@ -40,7 +40,7 @@ pub struct Rows<'g> {
 impl<'g> Model for Rows<'g> {
     ghost use Rattle.item_rows.specs.Rows.{ItemRows};
     ghost use Rattle.item_rows.specs.Held.{rows_from, lists_from, kinds_of, AreHeld};
-    ghost use Rattle.item_rows.specs.Noted.{AreNoted};
+    ghost use Rattle.item_rows.specs.Noted.{ArePlacesNoted};
 
     ghost Value = { ItemRows };
 
@@ -52,7 +52,7 @@ impl<'g> Model for Rows<'g> {
     } };
 
     ghost invariant = { λ r. AreHeld r.dotted.rules r.lists r.kernels r.count ×
-        AreNoted r.dotted.flat r.dotted.rules r.lists r.kernels r.noted.blocks.items };
+        ArePlacesNoted r.dotted.flat r.dotted.rules r.lists r.kernels r.noted.blocks.items };
 }
 
 impl<'g> Rows<'g> {

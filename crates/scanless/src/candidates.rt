@@ -203,14 +203,14 @@ pub fn look(
         (λ n. (0 < n) × (at + n ≤ length chars.now))) }
 {
     let alike = recce.alike();
-    let mut hint = work.notes.hint(alike.kind);
+    let mut hint = work.notes.hint(alike.list);
     let lexer = &mut work.lexer;
     let matched = &mut work.matched;
     if let Some(starts) = work.notes.find(alike) {
         let answer = longest_sought(
             lexer, alloc, p, recce, chars, at, starts, &mut hint, matched,
         );
-        work.notes.put_hint(alike.kind, hint);
+        work.notes.put_hint(alike.list, hint);
         return answer;
     }
     list_anew(work, p, recce, alike)?;

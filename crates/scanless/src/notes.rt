@@ -124,7 +124,7 @@ impl Notes {
     pub fn find(&self, alike: Alike) -> Option<&[u32]>
         ensures { IfSome result (λ starts. Contains self.now.lists (alike.place, starts.now)) }
     {
-        let note = note_at(&self.notes, alike.kind)?;
+        let note = note_at(&self.notes, alike.list)?;
         if note.place == alike.place {
             Some(self.lists.row(note.list))
         } else {
@@ -139,8 +139,8 @@ impl Notes {
             ((place ≡ alike.place) × (list ≡ starts.now)) }
         ensures hints { self.new.hints ≡ self.old.hints }
     {
-        let kind = alike.kind as usize;
-        if kind >= KINDS || starts.len() > STARTS.saturating_sub(self.count) {
+        let number = alike.list as usize;
+        if number >= KINDS || starts.len() > STARTS.saturating_sub(self.count) {
             return Ok(());
         }
         let list = self.lists.len();
@@ -148,7 +148,7 @@ impl Notes {
         self.count += starts.len();
         put_note(
             &mut self.notes,
-            kind,
+            number,
             Note {
                 place: alike.place,
                 list,

@@ -7,7 +7,7 @@ use Rattle.std.proofs.Math.Seq.{get_or-append_seam}
 use Rattle.finite_sets.proofs.Lists.{get_pushed}
 use Rattle.jagged.specs.Rows.{row_at}
 use Rattle.kernels.specs.Slots.{Rises}
-use Rattle.shared_lists.specs.Counted.{IsCount, AreCounts, AreCounted, NotesMore}
+use Rattle.shared_lists.specs.Counted.{IsCount, AreCounts, AreCounted, AddsCounts}
 
 module _ {A : Type 0} (xs : List A) (x d : A) where
   pub old_at : (k : ℕ) → k < length xs → get_or (xs ++ x ∷ []) k d ≡ get_or xs k d
@@ -80,7 +80,7 @@ module _ (lists counts : List (List ℕ)) where
           ]
         ]
 
-    pub counted_more : (place : ℕ) (new : List (List ℕ)) → place ≡ length lists → NotesMore place list counts new → AreCounted (lists ++ list ∷ []) new
+    pub counted_more : (place : ℕ) (new : List (List ℕ)) → place ≡ length lists → AddsCounts place list counts new → AreCounted (lists ++ list ∷ []) new
     counted_more place new e more = elim more [
       | inl same ↦ subst (AreCounted (lists ++ list ∷ [])) (sym same) counted_list
       | inr (long, row, is, counted) ↦ subst (AreCounted (lists ++ list ∷ [])) (sym is) (counted_both row (long ∙ e) counted)

@@ -1,11 +1,28 @@
 -- Numbers that rise, and a part of them.
-use Rattle.std.proofs.Common.{◌≡◌, ◌∙◌, inl, inr, ◌↔◌, ℕ, ◌+◌, ◌-◌, ◌<◌, ◌≤◌, List, length, take, drop, get_or, Contains, sym, ap, arith, length-take, length-drop}
+use Rattle.std.proofs.Common.{◌≡◌, ◌∙◌, inl, inr, ◌↔◌, ℕ, ◌+◌, ◌-◌, ◌<◌, ◌≤◌, true, false, List, length, take, drop, get_or, Contains, sym, ap, arith, length-take, length-drop}
 use Rattle.std.specs.Prelude.{nat_lt, slice_index}
-use Rattle.std.specs.List.Sorted.{IsPartitionedBy}
-use Rattle.std.proofs.lemmas.Bool.{ltb-true, lt-ltb, cases_lt}
+use Rattle.std.specs.List.{AllWithin}
+use Rattle.std.specs.List.Sorted.{IsPartitionedBy, IsPartitionPoint}
+use Rattle.std.proofs.lemmas.Bool.{ltb-true, ltb-false, lt-ltb, cases_lt}
 use Rattle.std.proofs.lemmas.List.{get_or-take, get_or-drop}
 use Rattle.kernels.specs.Slots.{Rises}
 use Rattle.kernels.proofs.Numbers.{index_any, in_order, at_least}
+use Rattle.shared_lists.specs.Counted.{IsCount}
+
+-- so many numbers pass the test that they are below a bound
+module _ (row : List ℕ) (bound count : ℕ) where
+  pub count_parted : count ≤ length row → IsPartitionPoint (λ n. nat_lt n bound ≡ true) (λ n. nat_lt n bound ≡ false) row count → IsCount row bound count
+  count_parted within point = record {
+    within = within;
+    below = λ k lt. ltb-true _ _ (point.0 k 0 (omega arith) lt);
+    above = λ k le lt. ltb-false _ _ (point.1 k 0 le lt);
+  }
+
+  pub passed_below : count ≤ length row → ((k : ℕ) → k < count → slice_index row k < bound) → AllWithin (λ n. nat_lt n bound ≡ true) row 0 count
+  passed_below within below k d from lt =
+      let a = index_any row k d 0 (omega arith) in
+      let b = below k lt in
+      lt-ltb _ _ (omega arith)
 
 -- numbers that rise
 module _ (row : List ℕ) (rises : Rises row) where

@@ -20,5 +20,5 @@ pub record AreCounted (lists counts : List (List ℕ)) : Type 0 where
   pub are : (k : ℕ) → AreCounts (row_at lists k) (row_at counts k)
 
 -- the counts of the list at a place are put after those before it, or none are
-abbrev pub NotesMore : (place : ℕ) → (list : List ℕ) → (old new : List (List ℕ)) → Type 0
-NotesMore place list old new = (new ≡ old) ⊎ ((length old ≡ place) × (counts : List ℕ) × (new ≡ old ++ counts ∷ []) × AreCounts list counts)
+abbrev pub AddsCounts : (place : ℕ) → (list : List ℕ) → (old new : List (List ℕ)) → Type 0
+AddsCounts place list old new = (new ≡ old) ⊎ ((length old ≡ place) × (counts : List ℕ) × (new ≡ old ++ counts ∷ []) × AreCounts list counts)

@@ -6,6 +6,6 @@ mod counts;
 mod lists;
 mod places;
 
-pub use counts::count;
+pub use counts::{count, count_while, count_while_from};
 pub use lists::SharedLists;
 pub use places::{Noted, Places};

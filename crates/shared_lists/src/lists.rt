@@ -2,7 +2,7 @@
 ghost use Rattle.std.specs.Prelude.{◌≡◌, ℕ, ◌<◌, ◌≤◌, ◌-◌, ◌++◌, ◌∷◌, ◌↔◌, [], length, take, drop, Contains, OnOk, OnErr};
 ghost use Rattle.jagged.specs.Rows.{row_at};
 ghost use Rattle.kernels.specs.Slots.{Rises};
-ghost use Rattle.shared_lists.specs.Counted.{NotesMore};
+ghost use Rattle.shared_lists.specs.Counted.{AddsCounts};
 
 use crate::counts::{count_by, list_counts};
 use jagged::Jagged;
@@ -115,7 +115,7 @@ fn note(
     bounds: u32,
 ) -> Result<(), AllocError>
     requires { Rises list.now }
-    ensures { NotesMore place list.now counts.old counts.new }
+    ensures { AddsCounts place list.now counts.old counts.new }
 {
     if counts.len() != place || bounds > *room {
         return Ok(());

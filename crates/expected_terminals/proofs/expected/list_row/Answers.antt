@@ -1,6 +1,6 @@
 use Rattle.std.proofs.Common.{◌+◌, ◌-◌, ◌<◌, length, inl, inr, ap, sym, subst, refl, arith}
 use Rattle.expected_terminals.specs.Marks.{HasRoom, AreAtMost}
-use Rattle.expected_terminals.specs.Expected.{IsNote, IsOfListed}
+use Rattle.expected_terminals.specs.Expected.{NotesTerminals, IsOfListed}
 use Rattle.expected_terminals.specs.declared.expected.Note.{Note}
 use Rattle.expected_terminals.specs.declared.marks.Marks.{Marks}
 use Rattle.item_rows.specs.Rows.{row_at}
@@ -12,7 +12,7 @@ mark_row-requires-clause-place c = let l = c.requires.last in omega arith
 
 pub note_listed-expected-requires : goal.note_listed-expected-requires
 note_listed-expected-requires c =
-    each_some c.told_before-told.result (IsNote c.args.flat.now c.args.rows.now.sets c.args.expected.now.lists) (λ note. note.list < length c.args.expected.now.lists) (λ note is. is.list)
+    each_some c.told_before-told.result (NotesTerminals c.args.flat.now c.args.rows.now.sets c.args.expected.now.lists) (λ note. note.list < length c.args.expected.now.lists) (λ note is. is.list)
     (right_told c.args.flat.now c.args.rows.now.sets c.args.expected.now.lists c.args.expected.now.notes.items c.deref.result.now c.told_before-told.result c.deref.ensures.value c.requires.notes c.told_before-told.ensures)
 
 pub returns : goal.returns

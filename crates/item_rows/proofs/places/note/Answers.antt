@@ -3,13 +3,13 @@ use Rattle.std.specs.declared.vec.Vec.{Vec}
 use Rattle.std.specs.declared.alloc.Global.{Global}
 use Rattle.shared_lists.specs.declared.places.Places.{Places}
 use Rattle.shared_lists.specs.Placed.{HasPlaces}
-use Rattle.item_rows.specs.Noted.{AreNoted}
+use Rattle.item_rows.specs.Noted.{ArePlacesNoted}
 use Rattle.item_rows.proofs.Noting.{noted_put}
 use Rattle.item_rows.proofs.places.note.Goals as goal
 
 pub returns-then-not-is_due : goal.returns-then-not-is_due
 returns-then-not-is_due c =
-    subst (λ (b : Vec (Vec Places Global) Global). AreNoted c.args.dotted.now.flat c.args.dotted.now.rules c.args.lists.now c.args.kernels.now b.items) (sym c.is_due.ensures) c.requires.noted
+    subst (λ (b : Vec (Vec Places Global) Global). ArePlacesNoted c.args.dotted.now.flat c.args.dotted.now.rules c.args.lists.now c.args.kernels.now b.items) (sym c.is_due.ensures) c.requires.noted
 
 pub returns-in-Ok : goal.returns-in-Ok
 returns-in-Ok c =
@@ -19,4 +19,4 @@ returns-in-Ok c =
 
 pub returns-in_default : goal.returns-in_default
 returns-in_default c =
-    subst (λ (b : Vec (Vec Places Global) Global). AreNoted c.args.dotted.now.flat c.args.dotted.now.rules c.args.lists.now c.args.kernels.now b.items) (sym c.is_due.ensures) c.requires.noted
+    subst (λ (b : Vec (Vec Places Global) Global). ArePlacesNoted c.args.dotted.now.flat c.args.dotted.now.rules c.args.lists.now c.args.kernels.now b.items) (sym c.is_due.ensures) c.requires.noted

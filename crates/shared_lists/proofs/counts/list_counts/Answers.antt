@@ -14,7 +14,7 @@ loop-bound-init c = record {
 
 pub overflow_cast-start : goal.overflow_cast-start
 overflow_cast-start c =
-    let small = count_small c.args.list.now c.requires c.loop-bound.bound c.count_from-start.result c.count_from-start.ensures.bound c.count_from-start.ensures.below in
+    let small = count_small c.args.list.now c.requires c.loop-bound.bound c.count_from-start.result c.count_from-start.ensures.within c.count_from-start.ensures.below in
     let test = c.loop-bound-test.true in
     omega arith
 
@@ -23,9 +23,9 @@ loop-bound-preserved c =
     let grown = ap (λ (l : List ℕ). length l) c.in_ok-push.ensures.items ∙ length-append c.loop-bound.counts.items (c.count_from-start.result ∷ []) in
     let long = c.loop-bound.invariant.long in
     record {
-      within = c.count_from-start.ensures.bound;
+      within = c.count_from-start.ensures.within;
       below = λ k lt. (let b = c.count_from-start.ensures.below k lt in omega arith);
       counts = counts_more c.args.list.now c.loop-bound.counts.items c.push.new.self.items c.loop-bound.bound c.count_from-start.result c.loop-bound.invariant.counts long
-          (record { within = c.count_from-start.ensures.bound; below = c.count_from-start.ensures.below; above = c.count_from-start.ensures.above }) c.in_ok-push.ensures.items;
+          c.count_from-start.ensures c.in_ok-push.ensures.items;
       long = omega (arith, grown, long);
     }

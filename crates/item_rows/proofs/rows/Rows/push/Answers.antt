@@ -5,7 +5,7 @@ use Rattle.item_rows.specs.Rows.{ItemRows}
 use Rattle.item_rows.specs.Kept.{AreItems}
 use Rattle.item_rows.specs.Dotted.{row_items}
 use Rattle.item_rows.specs.Held.{AreHeld}
-use Rattle.item_rows.specs.Noted.{AreNoted}
+use Rattle.item_rows.specs.Noted.{ArePlacesNoted}
 use Rattle.item_rows.proofs.Noting.{noted_more}
 use Rattle.item_rows.proofs.Joined.{row_length}
 use Rattle.item_rows.proofs.Holding.{seen, in_lists, row_pushed, items_pushed, held_more, seen_more}
@@ -32,7 +32,7 @@ note_asked-requires-clause-held c = (
 
 pub note_asked-requires-clause-noted : goal.note_asked-requires-clause-noted
 note_asked-requires-clause-noted c =
-    subst (λ (k : List Kernel). AreNoted c.self.inside.dotted.flat c.self.inside.dotted.rules c.self.inside.lists k c.self.inside.noted.blocks.items) (sym (c.in_ok-push.ensures.ok.1 ∙ ap (λ (l : List ℕ). c.self.inside.kernels ++ (record { begun = c.args.begun; packed = l; kind = c.in_ok-push.ensures.ok.0 }) ∷ []) c.deref.ensures.value))
+    subst (λ (k : List Kernel). ArePlacesNoted c.self.inside.dotted.flat c.self.inside.dotted.rules c.self.inside.lists k c.self.inside.noted.blocks.items) (sym (c.in_ok-push.ensures.ok.1 ∙ ap (λ (l : List ℕ). c.self.inside.kernels ++ (record { begun = c.args.begun; packed = l; kind = c.in_ok-push.ensures.ok.0 }) ∷ []) c.deref.ensures.value))
     (noted_more c.self.inside.dotted.flat c.self.inside.dotted.rules c.self.inside.lists c.self.inside.kernels _ c.self.invariant.1 (record { begun = c.args.begun; packed = c.pack_row.new.packed.items; kind = c.in_ok-push.ensures.ok.0 }))
 
 pub invariant_of-self-2 : goal.invariant_of-self-2

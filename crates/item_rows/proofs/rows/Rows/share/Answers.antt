@@ -4,7 +4,7 @@ use Rattle.item_rows.specs.Rows.{ItemRows}
 use Rattle.item_rows.specs.Kept.{AreItems}
 use Rattle.item_rows.specs.Dotted.{dotted_at}
 use Rattle.item_rows.specs.Held.{AreHeld}
-use Rattle.item_rows.specs.Noted.{AreNoted}
+use Rattle.item_rows.specs.Noted.{ArePlacesNoted}
 use Rattle.item_rows.proofs.Noting.{noted_shared}
 use Rattle.item_rows.proofs.Joined.{list_dotted, list_items}
 use Rattle.item_rows.proofs.Holding.{seen, held_shared, seen_shared}
@@ -26,7 +26,7 @@ invariant_of-self-2 c =
     let same = sym (c.in_ok-push.ensures.ok ∙ ap (λ (l : List ℕ). c.self.inside.lists ++ l ∷ []) (c.deref-2.ensures.value ∙ (c.in_ok-list_dotted.ensures ∙ ap (λ (l : List ℕ). map (λ n. n / 4294967296) l) c.deref.ensures.value))) in (
       subst (λ (l : List (List ℕ)). AreHeld c.self.inside.dotted.rules l c.self.inside.kernels c.self.inside.count) same
           (held_shared c.self.inside.dotted.flat c.self.inside.dotted.rules c.self.inside.lists c.self.inside.kernels c.args.self.now c.self.view_is c.self.inside.count c.self.invariant.0 (map (λ n. n / 4294967296) c.pack_row.new.packed.items) (list_dotted c.self.inside.dotted.rules c.args.items.now c.pack_row.new.packed.items c.in_ok-pack_row.ensures.row c.in_ok-pack_row.ensures.same c.known.ensures.zero c.requires.zero)),
-      subst (λ (l : List (List ℕ)). AreNoted c.self.inside.dotted.flat c.self.inside.dotted.rules l c.self.inside.kernels c.self.inside.noted.blocks.items) same
+      subst (λ (l : List (List ℕ)). ArePlacesNoted c.self.inside.dotted.flat c.self.inside.dotted.rules l c.self.inside.kernels c.self.inside.noted.blocks.items) same
           (noted_shared c.self.inside.dotted.flat c.self.inside.dotted.rules c.self.inside.lists c.self.inside.kernels _ c.self.invariant.1 (map (λ n. n / 4294967296) c.pack_row.new.packed.items) c.self.inside.count c.self.invariant.0),
     )
 
