@@ -17,10 +17,12 @@ type Table = IndexSet<Item, BuildHasherDefault<NearHasher>>;
 // So many items are held in a list alone: to go through them is cheaper than to hash.
 const FEW: usize = 48;
 
-// From so many items on they are marked, at one of so many places each.
+// From so many items on they are marked, at one of so many places each. Of more than many the table tells what is there.
 const MARKED: usize = 12;
 
 const PLACES: u64 = 4096;
+
+const MANY: usize = 512;
 
 /// Items in the order in which they were added, each once.
 pub struct ItemSet {
@@ -148,6 +150,9 @@ fn mark(marks: &mut Vec<u32>, item: Item, number: usize)
     ensures kept { (place : ℕ) → 0 < slice_index_or marks.old.items place 1 →
         0 < slice_index_or marks.new.items place 1 }
 {
+    if marks.is_empty() {
+        return;
+    }
     let place = place_of(item);
     if place < marks.len() {
         marks[place] = number.min(4_294_967_294) as u32 + 1;
@@ -276,6 +281,17 @@ impl ItemSet {
     pub fn contains(&self, item: Item) -> bool
         ensures { IsTrue result ↔ Contains self.now item }
     {
+        match by_mark(&self.marks, &self.items, item) {
+            Some(there) => there,
+            None => self.is_found(item),
+        }
+    }
+
+    // The same, where marks do not tell it.
+    #[inline(always)]
+    fn is_found(&self, item: Item) -> bool
+        ensures { IsTrue result ↔ Contains self.now item }
+    {
         if self.items.len() <= FEW {
             is_among(&self.items, item)
         } else {
@@ -292,6 +308,9 @@ impl ItemSet {
         if item.origin < self.least {
             return self.push(item);
         }
+        if self.marks.is_empty() || self.items.len() > MANY {
+            return self.insert_unmarked(item);
+        }
         match by_mark(&self.marks, &self.items, item) {
             Some(true) => Ok(()),
             Some(false) => self.push(item),
@@ -300,23 +319,26 @@ impl ItemSet {
     }
 
     // The same, where marks do not tell whether it is there.
+    #[inline(always)]
     fn insert_unmarked(&mut self, item: Item) -> Result<(), AllocError>
         ensures ok { OnOk result (Adds self.old self.new item) }
         ensures err { OnErr result (self.new ≡ self.old) }
     {
         self.make_ready()?;
-        if self.contains(item) {
+        if self.is_found(item) {
             return Ok(());
         }
-        self.make_marks();
+        if self.items.len() == MARKED {
+            self.make_marks();
+        }
         self.push(item)
     }
 
-    // Makes marks, if it is time and there is memory.
+    // Makes marks, if there are none and there is memory.
     fn make_marks(&mut self)
         ensures { self.new ≡ self.old }
     {
-        if self.items.len() < MARKED || !self.marks.is_empty() {
+        if !self.marks.is_empty() {
             return;
         }
         if let Ok(marks) = marks_of(*self.items.allocator(), &self.items) {
