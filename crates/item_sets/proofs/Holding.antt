@@ -6,7 +6,8 @@ use Rattle.std.proofs.lemmas.List.Elements.{Contains-append_left, Contains-appen
 use Rattle.std.proofs.lemmas.List.Quantifiers.{all_pairs_push}
 use Rattle.finite_sets.proofs.Lists.{Contains-none}
 use Rattle.recognizer_model.specs.declared.Item.{Item}
-use Rattle.item_sets.specs.Held.{HasFirst, IsHeld}
+use Rattle.std.specs.Prelude.{slice_index_or}
+use Rattle.item_sets.specs.Held.{place_of, HasFirst, IsHeld, AreMarked}
 
 -- an item that is not among the first ones, nor the one after them
 pub not_more : (items : List Item) (i : ℕ) (d item : Item) → i < length items → (¬ Contains (take i items) item) → (¬ (get_or items i d ≡ item)) → ¬ Contains (take (i + 1) items) item
@@ -74,3 +75,15 @@ there_first items n x = (
     | inr b ↦ Contains-append_right (take n items) (drop n items) x b
   ]),
 )
+
+-- no items have no marks
+pub marked_none : (marks : List ℕ) (items : List Item) → items ≡ [] → AreMarked marks items
+marked_none marks items none item there = absurd (Contains-none item (subst (λ l. Contains l item) none there))
+
+-- one item more, that is marked
+pub marked_push : (marks new : List ℕ) (items more : List Item) (item : Item) → AreMarked marks items → 0 < slice_index_or new (place_of item) 1 → ((place : ℕ) → 0 < slice_index_or marks place 1 → 0 < slice_index_or new place 1) → more ≡ items ++ item ∷ [] → AreMarked new more
+marked_push marks new items more item are here kept is x there =
+    elim (Contains-push_cases items item x (subst (λ l. Contains l x) is there)) [
+      | inl old ↦ kept (place_of x) (are x old)
+      | inr e ↦ subst (λ (y : Item). 0 < slice_index_or new (place_of y) 1) e here
+    ]

@@ -1,9 +1,9 @@
 //! A set of items in the order of adding.
-ghost use Rattle.std.specs.Prelude.{◌≡◌, ◌≢◌, ◌<◌, ◌≤◌, ◌^◌, ◌==◌, ◌↔◌, ◌⊎◌, ◌++◌, ◌∷◌, [], length, slice_get, IsTrue, OnOk, OnErr, Contains};
+ghost use Rattle.std.specs.Prelude.{◌≡◌, ◌≢◌, ℕ, ◌<◌, ◌≤◌, ◌^◌, ◌==◌, ◌↔◌, ◌⊎◌, ◌++◌, ◌∷◌, [], length, slice_get, slice_index_or, IsTrue, IfSome, IfOk, OnOk, OnErr, Contains};
 ghost use Rattle.std.specs.List.{AllPairs};
 ghost use Rattle.recognizer_model.specs.declared.Item.{Item as TheItem};
 ghost use Rattle.item_sets.specs.Adding.{Adds};
-ghost use Rattle.item_sets.specs.Held.{HasFirst};
+ghost use Rattle.item_sets.specs.Held.{place_of, HasFirst, AreMarked};
 
 use crate::NearHasher;
 use indexmap::IndexSet;
@@ -17,6 +17,13 @@ type Table = IndexSet<Item, BuildHasherDefault<NearHasher>>;
 // So many items are held in a list alone: to go through them is cheaper than to hash.
 const FEW: usize = 48;
 
+// From so many items on they are marked, at one of so many places each. Of more than many the table tells what is there.
+const MARKED: usize = 12;
+
+const PLACES: u64 = 4096;
+
+const MANY: usize = 512;
+
 /// Items in the order in which they were added, each once.
 pub struct ItemSet {
     items: Vec<Item>,
@@ -25,18 +32,21 @@ pub struct ItemSet {
     filled: usize,
     // no item begins before this place, so one that does is new
     least: u32,
+    // by place, one more than the number of an item that has it, or none at all: an item whose place has 0 is new
+    marks: Vec<u32>,
 }
 
 impl Model for ItemSet {
     ghost use Rattle.std.specs.Prelude.{List};
     ghost use Rattle.recognizer_model.specs.declared.Item.{Item as TheItem};
-    ghost use Rattle.item_sets.specs.Held.{IsHeld};
+    ghost use Rattle.item_sets.specs.Held.{IsHeld, AreMarked};
 
     ghost Value = { List TheItem };
 
     ghost view = { λ s. s.items.items };
 
-    ghost invariant = { λ s. IsHeld s.items.items s.table.keys s.filled s.least };
+    ghost invariant = { λ s. IsHeld s.items.items s.table.keys s.filled s.least ×
+        AreMarked s.marks.items s.items.items };
 }
 
 impl Drop for ItemSet {
@@ -46,6 +56,7 @@ impl Drop for ItemSet {
             table: _,
             filled: _,
             least: _,
+            marks: _,
         } = self;
     }
 }
@@ -113,6 +124,94 @@ fn is_held(table: &Table, items: &[Item], filled: usize, item: Item) -> bool
     is_in_table(table, item) || is_among(&items[filled..], item)
 }
 
+// The place of an item.
+#[inline(always)]
+fn place_of(item: Item) -> usize
+    ensures { result ≡ place_of item }
+{
+    ((item.rule as u64 + item.dot as u64 * 619 + item.origin as u64 * 2011) % PLACES) as usize
+}
+
+// What is marked at a place.
+#[inline(always)]
+fn mark_at(marks: &[u32], place: usize) -> u32
+    ensures { result ≡ slice_index_or marks.now place 1 }
+{
+    match marks.get(place) {
+        Some(mark) => *mark,
+        None => 1,
+    }
+}
+
+// Marks an item of a number, if there are marks.
+#[inline(always)]
+fn mark(marks: &mut Vec<u32>, item: Item, number: usize)
+    ensures here { 0 < slice_index_or marks.new.items (place_of item) 1 }
+    ensures kept { (place : ℕ) → 0 < slice_index_or marks.old.items place 1 →
+        0 < slice_index_or marks.new.items place 1 }
+{
+    if marks.is_empty() {
+        return;
+    }
+    let place = place_of(item);
+    if place < marks.len() {
+        marks[place] = number.min(4_294_967_294) as u32 + 1;
+    }
+}
+
+// Marks of items.
+fn marks_of(alloc: Global, items: &[Item]) -> Result<Vec<u32>, AllocError>
+    ensures { IfOk result (λ marks. AreMarked marks.items items.now) }
+{
+    let mut marks = Vec::new(alloc);
+    marks.resize(PLACES as usize, 0)?;
+    for number in 0..items.len() {
+        mark(&mut marks, items[number], number);
+    }
+    Ok(marks)
+}
+
+// Takes the marks of items away.
+#[inline(always)]
+fn unmark(marks: &mut Vec<u32>, items: &[Item]) {
+    if marks.is_empty() {
+        return;
+    }
+    for item in items {
+        let place = place_of(*item);
+        if place < marks.len() {
+            marks[place] = 0;
+        }
+    }
+}
+
+// Whether the item of a number is this one.
+#[inline(always)]
+fn is_at(items: &[Item], number: usize, item: Item) -> bool
+    ensures { IsTrue result → Contains items.now item }
+{
+    match items.get(number) {
+        Some(other) => same(*other, item),
+        None => false,
+    }
+}
+
+// Whether an item is there, if its mark tells it.
+#[inline(always)]
+fn by_mark(marks: &[u32], items: &[Item], item: Item) -> Option<bool>
+    requires { AreMarked marks.now items.now }
+    ensures { IfSome result (λ there. IsTrue there ↔ Contains items.now item) }
+{
+    let mark = mark_at(marks, place_of(item));
+    if mark == 0 {
+        Some(false)
+    } else if is_at(items, mark as usize - 1, item) {
+        Some(true)
+    } else {
+        None
+    }
+}
+
 impl ItemSet {
     /// No items.
     pub fn new(alloc: Global) -> ItemSet
@@ -123,6 +222,7 @@ impl ItemSet {
             table: IndexSet::with_hasher(alloc, BuildHasherDefault::new()),
             filled: 0,
             least: u32::MAX,
+            marks: Vec::new(alloc),
         }
     }
 
@@ -171,6 +271,7 @@ impl ItemSet {
             table: _,
             filled: _,
             least: _,
+            marks: _,
         } = self;
         items
     }
@@ -178,6 +279,17 @@ impl ItemSet {
     /// Whether an item is among them.
     #[inline(always)]
     pub fn contains(&self, item: Item) -> bool
+        ensures { IsTrue result ↔ Contains self.now item }
+    {
+        match by_mark(&self.marks, &self.items, item) {
+            Some(there) => there,
+            None => self.is_found(item),
+        }
+    }
+
+    // The same, where marks do not tell it.
+    #[inline(always)]
+    fn is_found(&self, item: Item) -> bool
         ensures { IsTrue result ↔ Contains self.now item }
     {
         if self.items.len() <= FEW {
@@ -196,11 +308,42 @@ impl ItemSet {
         if item.origin < self.least {
             return self.push(item);
         }
+        if self.marks.is_empty() || self.items.len() > MANY {
+            return self.insert_unmarked(item);
+        }
+        match by_mark(&self.marks, &self.items, item) {
+            Some(true) => Ok(()),
+            Some(false) => self.push(item),
+            None => self.insert_unmarked(item),
+        }
+    }
+
+    // The same, where marks do not tell whether it is there.
+    #[inline(always)]
+    fn insert_unmarked(&mut self, item: Item) -> Result<(), AllocError>
+        ensures ok { OnOk result (Adds self.old self.new item) }
+        ensures err { OnErr result (self.new ≡ self.old) }
+    {
         self.make_ready()?;
-        if self.contains(item) {
+        if self.is_found(item) {
             return Ok(());
         }
+        if self.items.len() == MARKED {
+            self.make_marks();
+        }
         self.push(item)
+    }
+
+    // Makes marks, if there are none and there is memory.
+    fn make_marks(&mut self)
+        ensures { self.new ≡ self.old }
+    {
+        if !self.marks.is_empty() {
+            return;
+        }
+        if let Ok(marks) = marks_of(*self.items.allocator(), &self.items) {
+            self.marks = marks;
+        }
     }
 
     /// Makes ready for look-ups: until the next item is added, they do not go through many.
@@ -233,8 +376,10 @@ impl ItemSet {
         ensures ok { OnOk result (self.new ≡ self.old ++ item ∷ []) }
         ensures err { OnErr result (self.new ≡ self.old) }
     {
+        let number = self.items.len();
         self.items.push(item)?;
         self.least = self.least.min(item.origin);
+        mark(&mut self.marks, item, number);
         Ok(())
     }
 
@@ -243,6 +388,7 @@ impl ItemSet {
     pub fn clear(&mut self)
         ensures { self.new ≡ [] }
     {
+        unmark(&mut self.marks, &self.items);
         self.items.clear();
         self.least = u32::MAX;
         if self.filled == 0 {
