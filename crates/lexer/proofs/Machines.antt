@@ -14,7 +14,7 @@ use Rattle.lexer.specs.declared.kinds.Kind.{Kind}
 use Rattle.lexer.specs.declared.machine.Machine.{Machine}
 use Rattle.lexer.specs.Terminals.{ClassRows}
 use Rattle.jagged.specs.Rows.{row_at}
-use Rattle.lexer.specs.Machines.{IsNoted, HasBegin, AreKinds, IsStepBy, IsNotedStep, IsMachine, Goes}
+use Rattle.lexer.specs.Machines.{IsNoted, HasBegin, AreKinds, IsStepBy, IsNotedStep, AreStates, IsMachine, Goes}
 
 -- ---- lists of rows
 
@@ -46,11 +46,12 @@ pub begin_later : (g : FlatGrammar) (old new : List (List Thread)) (starts : Lis
 begin_later g old new starts set to grown is = record { keeps = is.keeps; begins = λ later more. is.begins later (grown_on old new later grown more) }
 
 -- nothing is noted of no states
-pub empty_machine : (m : Machine) → m.parts ≡ [] → m.rows ≡ [] → m.kinds.items ≡ [] → m.next.items ≡ [] → m.begins ≡ [] → IsMachine m
-empty_machine m p r k n b = record {
-  parts = subst (AreParts m.flat.now) (sym p) (λ s th h. absurd (Contains-none th h));
-  rows = λ s. subst (λ (l : List (List Thread)). AreThreads m.flat.now (length m.parts) (list_at l s)) (sym r) (λ th h. absurd (Contains-none th h));
-  kinds = subst (λ (l : List (List Thread)). AreKinds m.flat.now l m.kinds.items) (sym r) (subst (AreKinds m.flat.now []) (sym k) (record { long = refl; each = λ s d lt. absurd (omega arith) }));
+pub empty_machine : (g : FlatGrammar) (classes : List (List ℕ)) (parts rows : List (List Thread)) (kinds : List Kind) (next : List ℕ) (begins : List (Vec ℕ Global × ℕ)) →
+    parts ≡ [] → rows ≡ [] → kinds ≡ [] → next ≡ [] → begins ≡ [] → AreStates g classes parts rows kinds next begins
+empty_machine g classes parts rows kinds next begins p r k n b = record {
+  parts = subst (AreParts g) (sym p) (λ s th h. absurd (Contains-none th h));
+  rows = λ s. subst (λ (l : List (List Thread)). AreThreads g (length parts) (list_at l s)) (sym r) (λ th h. absurd (Contains-none th h));
+  kinds = subst (λ (l : List (List Thread)). AreKinds g l kinds) (sym r) (subst (AreKinds g []) (sym k) (record { long = refl; each = λ s d lt. absurd (omega arith) }));
   next = λ s c t lt noted. (let e = subst (λ (l : List ℕ). IsNoted l s c t) n noted in absurd (none (s * 128 + c) t e.0));
   begins = λ starts s has. (let (v, there, same) = subst (λ (l : List (Vec ℕ Global × ℕ)). HasBegin l starts s) b has in absurd (Contains-none (v, s) there));
 }

@@ -3,3 +3,4 @@ pub mod Laws
 pub mod Terminals
 pub mod Machines
 pub mod Reading
+pub mod Unbound

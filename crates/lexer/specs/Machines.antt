@@ -37,8 +37,11 @@ abbrev pub form_of : Machine → LexicalForm
 form_of m = record { flat = m.flat.now; sets = m.classes.sets }
 
 -- one state leads to another by a class of characters
+abbrev pub LeadsBy : FlatGrammar → (classes : List (List ℕ)) → (parts rows : List (List Thread)) → (state class to : ℕ) → Type 0
+LeadsBy g classes parts rows s c t = (set : List Thread) × IsNext g parts (IsReadBy g (row_at classes c)) (list_at rows s) set (list_at rows t)
+
 abbrev pub IsStepBy : Machine → (state class to : ℕ) → Type 0
-IsStepBy m s c t = (set : List Thread) × IsNext m.flat.now m.parts (IsReadBy m.flat.now (row_at m.classes.rows c)) (list_at m.rows s) set (list_at m.rows t)
+IsStepBy m s c t = LeadsBy m.flat.now m.classes.rows m.parts m.rows s c t
 
 -- one state leads to another by a character
 abbrev pub IsStepOver : Machine → (state character to : ℕ) → Type 0
@@ -46,19 +49,25 @@ IsStepOver m s c t =
     (terminals : List ℕ) × AreTerminalsOf m.classes.sets c terminals × ((set : List Thread) × IsNext m.flat.now m.parts (IsReadBy m.flat.now terminals) (list_at m.rows s) set (list_at m.rows t))
 
 -- what is noted of a step is so
-pub record IsNotedStep (m : Machine) (s c t : ℕ) : Type 0 where
-  pub from : s < length m.rows
-  pub by_class : c < length m.classes.rows
-  pub to : t < length m.rows
-  pub steps : IsStepBy m s c t
+pub record IsNotedIn (g : FlatGrammar) (classes : List (List ℕ)) (parts rows : List (List Thread)) (s c t : ℕ) : Type 0 where
+  pub from : s < length rows
+  pub by_class : c < length classes
+  pub to : t < length rows
+  pub steps : LeadsBy g classes parts rows s c t
 
--- whatever is noted is so
-pub record IsMachine (m : Machine) : Type 0 where
-  pub parts : AreParts m.flat.now m.parts
-  pub rows : (s : ℕ) → AreThreads m.flat.now (length m.parts) (list_at m.rows s)
-  pub kinds : AreKinds m.flat.now m.rows m.kinds.items
-  pub next : (s c t : ℕ) → c < 128 → IsNoted m.next.items s c t → IsNotedStep m s c t
-  pub begins : (starts : List ℕ) (s : ℕ) → HasBegin m.begins starts s → (s < length m.rows) × ((set : List Thread) × IsBegin m.flat.now m.parts starts set (list_at m.rows s))
+abbrev pub IsNotedStep : Machine → (state class to : ℕ) → Type 0
+IsNotedStep m s c t = IsNotedIn m.flat.now m.classes.rows m.parts m.rows s c t
+
+-- whatever is noted of states is so: `threads` has the threads of each, `pieces` the parts that their labels tell of
+pub record AreStates (g : FlatGrammar) (classes : List (List ℕ)) (pieces threads : List (List Thread)) (told : List Kind) (noted : List ℕ) (firsts : List (Vec ℕ Global × ℕ)) : Type 0 where
+  pub parts : AreParts g pieces
+  pub rows : (s : ℕ) → AreThreads g (length pieces) (list_at threads s)
+  pub kinds : AreKinds g threads told
+  pub next : (s c t : ℕ) → c < 128 → IsNoted noted s c t → IsNotedIn g classes pieces threads s c t
+  pub begins : (starts : List ℕ) (s : ℕ) → HasBegin firsts starts s → (s < length threads) × ((set : List Thread) × IsBegin g pieces starts set (list_at threads s))
+
+abbrev pub IsMachine : Machine → Type 0
+IsMachine m = AreStates m.flat.now m.classes.rows m.parts m.rows m.kinds.items m.next.items m.begins
 
 -- what was there keeps its place
 pub record Goes (old new : Machine) : Type 0 where

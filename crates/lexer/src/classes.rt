@@ -1,6 +1,7 @@
 //! Characters by the terminals that have them.
 ghost use Rattle.std.specs.Prelude.{◌≡◌, ◌≢◌, ℕ, ◌<◌, ◌⊎◌, ◌++◌, ◌∷◌, [], List, length, slice_get, Some, IfOk, IfSome, IsTrue, ◌↔◌};
 ghost use Rattle.lexer.specs.Terminals.{AreTerminalsOf, IsClassOf};
+ghost use Rattle.lexer.specs.Unbound.{AreClassesOf};
 ghost use Rattle.jagged.specs.Rows.{row_at};
 
 use crate::terminals::list_terminals;
@@ -157,5 +158,51 @@ impl<'g> Classes<'g> {
         ensures { result.now ≡ row_at self.now.rows class }
     {
         self.rows.row(class)
+    }
+    /// The same without the sets.
+    pub fn unbind(self) -> UnboundClasses
+        ensures of { AreClassesOf self.entry.sets result }
+        ensures rows { result.rows ≡ self.entry.rows }
+    {
+        let Classes {
+            sets: _,
+            rows,
+            ascii,
+            terminals,
+        } = self;
+        UnboundClasses {
+            rows,
+            ascii,
+            terminals,
+        }
+    }
+}
+
+/// Classes of characters, without the sets of the terminals.
+#[derive(Drop)]
+pub struct UnboundClasses {
+    rows: Jagged<SymbolId>,
+    ascii: Vec<Option<usize>>,
+    terminals: Vec<SymbolId>,
+}
+
+impl UnboundClasses {
+    /// The same with the sets.
+    pub fn bind<'g>(self, sets: &'g [(SymbolId, CharSet)]) -> Classes<'g>
+        requires { AreClassesOf sets.now self }
+        ensures sets { result.sets ≡ sets.now }
+        ensures rows { result.rows ≡ self.rows }
+    {
+        let UnboundClasses {
+            rows,
+            ascii,
+            terminals,
+        } = self;
+        Classes {
+            sets,
+            rows,
+            ascii,
+            terminals,
+        }
     }
 }

@@ -11,9 +11,12 @@ ghost use Rattle.threads.specs.Steps.{IsBegin};
 ghost use Rattle.lexer.specs.Lexical.{IsLongestMatch, IsUnmatched};
 ghost use Rattle.lexer.specs.Machines.{form_of, IsMatch, IsKindOf, IsMachine, Goes};
 ghost use Rattle.lexer.specs.Reading.{IsDoneIn, IsBestRow};
+ghost use Rattle.lexer.specs.Unbound.{IsLexerOver};
 
 use crate::kinds::{Kind, is_match};
-use crate::machine::{Machine, begin, forget_if_full, new_machine, step};
+use crate::machine::{
+    Machine, UnboundMachine, begin, bind, forget_if_full, new_machine, step, unbind,
+};
 use crate::next::STATES;
 use crate::table::Lexical;
 use grammar_core::Flat;
@@ -399,6 +402,47 @@ impl<'g> Lexer<'g> {
             &mut self.done,
             matched,
         )
+    }
+
+    /// The same without the lexical grammar, so that it lends nothing from it.
+    pub fn unbind(self) -> UnboundLexer
+        ensures { IsLexerOver self.entry result }
+    {
+        let Lexer { machine, done } = self;
+        UnboundLexer {
+            machine: unbind(machine),
+            done,
+        }
+    }
+}
+
+/// The states of a lexical grammar that were met, without the grammar.
+pub struct UnboundLexer {
+    machine: UnboundMachine,
+    done: Vec<u32>,
+}
+
+// Written out, so that whoever lets it go does so by one call.
+impl Drop for UnboundLexer {
+    fn drop(self) {
+        let UnboundLexer {
+            machine: _,
+            done: _,
+        } = self;
+    }
+}
+
+impl UnboundLexer {
+    /// The same with the lexical grammar.
+    pub fn bind<'g>(self, l0: Lexical<'g>) -> Lexer<'g>
+        requires { IsLexerOver l0 self }
+        ensures { result ≡ l0.entry }
+    {
+        let UnboundLexer { machine, done } = self;
+        Lexer {
+            machine: bind(machine, l0),
+            done,
+        }
     }
 }
 

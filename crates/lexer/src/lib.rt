@@ -12,7 +12,7 @@ mod terminals;
 
 ghost use Rattle.lexer.specs.Laws.{MatchesAreTheGrammars};
 
-pub use lexer::{LexAnswer, Lexer, longest};
+pub use lexer::{LexAnswer, Lexer, UnboundLexer, longest};
 use recognizer_model::flat_grammars_are_flat_forms;
 pub use table::Lexical;
 

@@ -5,9 +5,10 @@ ghost use Rattle.threads.specs.Lists.{list_at, IsGrown};
 ghost use Rattle.threads.specs.Steps.{IsBegin};
 ghost use Rattle.lexer.specs.Lexical.{LexicalForm};
 ghost use Rattle.lexer.specs.Machines.{form_of, IsMachine, Goes, IsStepBy, IsStepOver};
+ghost use Rattle.lexer.specs.Unbound.{IsMachineOf};
 
 use crate::begins::Begins;
-use crate::classes::Classes;
+use crate::classes::{Classes, UnboundClasses};
 use crate::kinds::{Kind, add_row};
 use crate::next::{note, state_after};
 use crate::table::Lexical;
@@ -34,6 +35,77 @@ pub struct Machine<'g> {
     pub limit: usize,
     /// how many parts there are at most between two matches
     pub part_limit: usize,
+}
+
+/// The same without the lexical grammar.
+#[derive(Drop)]
+pub struct UnboundMachine {
+    pub classes: UnboundClasses,
+    pub parts: Lists,
+    pub rows: Lists,
+    pub kinds: Vec<Kind>,
+    pub next: Vec<u32>,
+    pub begins: Begins,
+    pub limit: usize,
+    pub part_limit: usize,
+}
+
+/// A machine without the lexical grammar.
+pub fn unbind(machine: Machine<'_>) -> UnboundMachine
+    requires { IsMachine machine }
+    ensures { IsMachineOf (form_of machine.entry) result }
+{
+    let Machine {
+        flat: _,
+        classes,
+        parts,
+        rows,
+        kinds,
+        next,
+        begins,
+        limit,
+        part_limit,
+    } = machine;
+    UnboundMachine {
+        classes: classes.unbind(),
+        parts,
+        rows,
+        kinds,
+        next,
+        begins,
+        limit,
+        part_limit,
+    }
+}
+
+/// The same with the lexical grammar.
+pub fn bind<'g>(machine: UnboundMachine, l0: Lexical<'g>) -> Machine<'g>
+    requires { IsMachineOf l0 machine }
+    ensures form { form_of result ≡ l0.entry }
+    ensures is { IsMachine result }
+{
+    let Lexical { flat, sets } = l0;
+    let UnboundMachine {
+        classes,
+        parts,
+        rows,
+        kinds,
+        next,
+        begins,
+        limit,
+        part_limit,
+    } = machine;
+    Machine {
+        flat,
+        classes: classes.bind(sets),
+        parts,
+        rows,
+        kinds,
+        next,
+        begins,
+        limit,
+        part_limit,
+    }
 }
 
 // A grammar may have a part for each place in its rules: as many as that, and more, are kept.

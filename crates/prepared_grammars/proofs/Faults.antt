@@ -3,7 +3,6 @@ use Rattle.std.proofs.Common.{◌≡◌, ◌<◌, true, false, length, Option, S
 use Rattle.grammar_model.specs.Grammar.{Grammar}
 use Rattle.grammar_model.specs.Checked.{IsChecked}
 use Rattle.recognizer_model.specs.Flat.{FlatGrammar}
-use Rattle.recognizer_model.specs.FlatForm.{IsFlatOf}
 use Rattle.flat_model.specs.Flattened.{IsFlattened}
 pub use Rattle.flat_rules.proofs.Counted.{few_rules, many_rules}
 use Rattle.language_model.specs.Building.{Built}
@@ -53,7 +52,7 @@ lexical_form : (b : Built) (c : Option Grammar) (lexical : Option FlatGrammar) �
 lexical_form b None None none flat = ((λ some. omega (arith, some, none)), λ some. absurd (omega (arith, some, none)))
 lexical_form b None (Some f) none flat = absurd flat
 lexical_form b (Some g) None is flat = absurd flat
-lexical_form b (Some g) (Some f) (same, some, l) (form, few) = ((some, subst (IsFlatOf f) same form), λ _. subst HasFewRules same few)
+lexical_form b (Some g) (Some f) (same, some, l) (form, few) = ((some, subst (λ h. IsFlattened h f) same form), λ _. subst HasFewRules same few)
 
 pub are_parts : (b : Built) (g : Grammar) (c : Option Grammar) (flat : FlatGrammar) (lexical : Option FlatGrammar) (abilities : List Ability) → g ≡ b.g1 → IsChecked b.g1 → IsCheckedLexical b.l0 c
     → IsFlattened g flat → HasFewRules g → IsFlatLexical c lexical → AreAbilities g abilities → AreParts b flat lexical abilities

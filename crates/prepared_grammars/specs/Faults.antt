@@ -4,7 +4,7 @@ use Rattle.grammar_model.specs.Grammar.{Grammar}
 use Rattle.grammar_model.specs.Checked as model
 use Rattle.grammar_model.specs.Checked.{IsChecked}
 use Rattle.recognizer_model.specs.Flat.{FlatGrammar}
-use Rattle.recognizer_model.specs.FlatForm.{IsFlatOf}
+use Rattle.flat_model.specs.Flattened.{IsFlattened}
 use Rattle.language_model.specs.Building.{Built}
 pub use Rattle.grammar_check.specs.Said.{Says, IsSaid}
 use Rattle.reading_model.specs.Accepted.{Structural, Lexical, TooManyRules, HasGrammarFault, HasFewRules, HasTooManyRules}
@@ -53,7 +53,7 @@ abbrev pub IsFlatLexical : Option Grammar → Option FlatGrammar → Type 0
 IsFlatLexical None None = Unit {0}
 IsFlatLexical None (Some flat) = ⊥
 IsFlatLexical (Some c) None = ⊥
-IsFlatLexical (Some c) (Some flat) = IsFlatOf flat c × HasFewRules c
+IsFlatLexical (Some c) (Some flat) = IsFlattened c flat × HasFewRules c
 
 abbrev pub IsLexicalOverfull : Option Grammar → Fault → Type 0
 IsLexicalOverfull None fault = ⊥

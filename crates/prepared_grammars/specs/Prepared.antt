@@ -4,7 +4,6 @@ use Rattle.std.specs.List.Sorted.{IsStrictlySortedBy}
 use Rattle.std.specs.Ordering.{nat_cmp}
 use Rattle.grammar_model.specs.Values.{name_of}
 use Rattle.recognizer_model.specs.Flat.{FlatGrammar}
-use Rattle.recognizer_model.specs.FlatForm.{IsFlatOf}
 use Rattle.flat_model.specs.Flattened.{IsFlattened}
 use Rattle.language_model.specs.Building.{Built, LexemeRow}
 use Rattle.language_model.specs.Texts.{IsBuilt}
@@ -23,7 +22,7 @@ pub record AreInOrder (b : Built) : Type 0 where
 -- the flat form of the lexical grammar, which there is exactly where there is a lexeme or a discard
 abbrev pub IsLexicalForm : Built → Option FlatGrammar → Type 0
 IsLexicalForm b None = IsLexical b → ⊥
-IsLexicalForm b (Some flat) = IsLexical b × IsFlatOf flat b.l0
+IsLexicalForm b (Some flat) = IsLexical b × IsFlattened b.l0 flat
 
 pub record AreParts (b : Built) (flat : FlatGrammar) (lexical : Option FlatGrammar) (abilities : List Ability) : Type 0 where
   pub accepted : IsAccepted b
