@@ -88,7 +88,7 @@ fn links_of(alloc: Global, count: usize, pairs: &[(u32, u32)]) -> Result<Links, 
         AreLinks pairs.now (length pairs.now) links.last.items links.before.items) }
 {
     let mut last = vec![in alloc; 0usize; count]?;
-    let mut before = Vec::new(alloc);
+    let mut before = Vec::with_capacity(alloc, pairs.len())?;
     for (place, pair) in pairs.iter().enumerate() {
         let x = pair.0 as usize;
         before.push(last[x])?;
@@ -139,6 +139,13 @@ impl Model for Linked {
 }
 
 impl Linked {
+    /// How many rows there are.
+    pub fn len(&self) -> usize
+        ensures { result ≡ length self.now }
+    {
+        self.count
+    }
+
     /// Lists the numbers of a row, in any order, in the place of what the list had.
     pub fn list(&self, x: usize, row: &mut Vec<u32>) -> Result<(), AllocError>
         requires { x < length self.now }

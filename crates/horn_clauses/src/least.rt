@@ -136,7 +136,7 @@ fn search_rows(alloc: Global, clauses: &Clauses, rows: &Linked) -> Result<Number
 {
     let mut places = vec![in alloc; 0usize; clauses.len()]?;
     let mut row = Vec::new(alloc);
-    let mut found = NumberSet::new(alloc);
+    let mut found = NumberSet::below(alloc, rows.len())?;
     close(clauses, rows, &mut row, &mut found, &mut places)?;
     Ok(found)
 }
