@@ -1,4 +1,4 @@
-use Rattle.std.proofs.Common.{subst, sym}
+use Rattle.std.proofs.Common.{subst}
 use Rattle.std.specs.Prelude.{IsTrue}
 use Rattle.lexer.proofs.Sorted.{found_there}
 use Rattle.lexer.proofs.lexer.is_found.Goals as goal
