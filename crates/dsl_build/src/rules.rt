@@ -31,7 +31,7 @@ fn numbers_of(alloc: Global, names: &Names, parts: &[&Spelled]) -> Result<Vec<Sy
     requires few { length names.now ≤ MOST_ENTRIES }
     ensures { IfOk result (λ numbers. numbers.items ≡ map (λ t. place_in names.now t.now.content) parts.now) }
 {
-    let mut numbers = Vec::new(alloc);
+    let mut numbers = Vec::with_capacity(alloc, parts.len())?;
     for part in parts {
         numbers.push(number_of(names, part))?;
     }

@@ -69,7 +69,7 @@ pub fn numbers_from(alloc: Global, from: usize, count: usize) -> Result<Vec<Symb
     requires { from + count ≤ MOST_ENTRIES }
     ensures { IfOk result (λ numbers. numbers.items ≡ count_from from count) }
 {
-    let mut numbers = Vec::new(alloc);
+    let mut numbers = Vec::with_capacity(alloc, count)?;
     for k in 0..count {
         numbers.push(SymbolId((from + k) as u32))?;
     }

@@ -95,8 +95,9 @@ fn right_side(
     requires small { length symbols.now.slots < 2 ^ 32 }
     ensures { IfOk result (λ rhs. rhs.items ≡ parts_in symbols.now (rule_at w.now i)) }
 {
-    let mut rhs = Vec::new(alloc);
-    for k in 0..count_parts(w.rule(i)) {
+    let count = count_parts(w.rule(i));
+    let mut rhs = Vec::with_capacity(alloc, count)?;
+    for k in 0..count {
         rhs.push(part_number(w, symbols, i, k))?;
     }
     Ok(rhs)

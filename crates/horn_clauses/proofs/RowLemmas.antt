@@ -2,7 +2,7 @@
 use Rattle.std.proofs.Common.{arith, ◌≡◌, inl, inr, ℕ, ◌+◌, ◌<◌, List, [], ◌∷◌, ◌++◌, length, take, Contains, slice_index, refl, sym, ◌∙◌, ap, subst}
 use Rattle.horn_clauses.specs.Least.{Clause, clause_at}
 use Rattle.std.proofs.lemmas.List.{get_or-take, length-take-le, get_or_append_left, get_or_push}
-use Rattle.horn_clauses.specs.Rows.{HasAdded, HasAddedAll, HasPlacesTo, HasPlaces, HasSameRows}
+use Rattle.horn_clauses.specs.Rows.{HasAdded, HasAddedAll, HasPlacesTo}
 use Rattle.jagged.specs.Rows.{row_at}
 use Rattle.horn_clauses.proofs.Search.{same_or_below}
 
@@ -49,10 +49,4 @@ places_more cs old new n lt p a = record {
     | inl before ↦ a.keeps (slice_index (clause_at cs i).body m) i (p.all i m before more)
     | inr same ↦ subst (λ i. m < length (clause_at cs i).body → Contains (row_at new (slice_index (clause_at cs i).body m)) i) (sym same) (a.has m) more
   ];
-}
-
-pub places_same : (cs : List Clause) (old : List (List ℕ)) → HasPlacesTo cs old (length cs) → (new : List (List ℕ)) → HasSameRows old new → HasPlaces cs new
-places_same cs old p new s = record {
-  within = λ x i h. p.within x i ((s.same x i).0 h);
-  all = λ i m lt more. (s.same (slice_index (clause_at cs i).body m) i).1 (p.all i m lt more);
 }

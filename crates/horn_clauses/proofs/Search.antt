@@ -1,5 +1,5 @@
 -- The steps of a search keep what it has found and what waits.
-use Rattle.std.proofs.Common.{arith, ◌≡◌, ◌≢◌, ◌⊎◌, inl, inr, ℕ, zero, suc, ◌+◌, ◌<◌, ◌≤◌, List, [], ◌∷◌, ◌++◌, length, take, All, Contains, slice_index, slice_set, slice_get, Option, Some, None, sym, ◌∙◌, ap, subst, length-append, length-set, append-nil, append_assoc}
+use Rattle.std.proofs.Common.{arith, ◌≡◌, ◌≢◌, ◌↔◌, ◌⊎◌, inl, inr, ℕ, zero, suc, ◌+◌, ◌<◌, ◌≤◌, List, [], ◌∷◌, ◌++◌, length, take, All, Contains, slice_index, slice_set, slice_get, Option, Some, None, sym, ◌∙◌, ap, subst, length-append, length-set, append-nil, append_assoc}
 use Rattle.std.proofs.lemmas.List.{get_or-set_same, get_or-set_other, get_or_default, get_or_append_left, take_more}
 use Rattle.std.proofs.lemmas.List.Elements.{Contains-push_cases, Contains-get_or}
 use Rattle.finite_sets.proofs.Lists.{Contains-none}
@@ -129,6 +129,10 @@ module _ (cs : List Clause) where
             | inr now ↦ subst (Waits cs new_keys new_places (suc k)) (e ∙ now) (a.settled (suc k) (omega arith))
           ];
         }
+
+    -- the same of a row that has the same clauses
+    pub visit_same : (row other : List ℕ) (k : ℕ) (new_keys new_places : List ℕ) → ((n : ℕ) → Contains row n ↔ Contains other n) → HasVisited cs keys row k new_keys new_places → HasVisited cs keys other k new_keys new_places
+    visit_same row other k new_keys new_places same v = record { search = v.search; extends = v.extends; waits = v.waits; done = λ i h. v.done i ((same i).1 h) }
 
     -- once the row is done nothing waits for its number
     pub visit_done : (rows : List (List ℕ)) (k x : ℕ) (new_keys new_places : List ℕ) → HasPlaces cs rows → k < length keys → slice_index keys k ≡ x → HasVisited cs keys (row_at rows x) k new_keys new_places →

@@ -55,6 +55,18 @@ impl Gathered {
         Ok(())
     }
 
+    /// The rows, each to be listed where it is asked for.
+    pub fn linked(self, alloc: Global) -> Result<Linked, AllocError>
+        ensures { IfOk result (λ linked. linked ≡ self) }
+    {
+        let links = links_of(alloc, self.count, &self.pairs)?;
+        Ok(Linked {
+            count: self.count,
+            pairs: self.pairs,
+            links,
+        })
+    }
+
     /// The rows, one after the other.
     pub fn rows(&self, alloc: Global) -> Result<Jagged<u32>, AllocError>
         ensures { IfOk result (λ rows. HasSameRows self.now rows) }
@@ -76,7 +88,7 @@ fn links_of(alloc: Global, count: usize, pairs: &[(u32, u32)]) -> Result<Links, 
         AreLinks pairs.now (length pairs.now) links.last.items links.before.items) }
 {
     let mut last = vec![in alloc; 0usize; count]?;
-    let mut before = Vec::new(alloc);
+    let mut before = Vec::with_capacity(alloc, pairs.len())?;
     for (place, pair) in pairs.iter().enumerate() {
         let x = pair.0 as usize;
         before.push(last[x])?;
@@ -104,6 +116,44 @@ fn collect(
         next = links.before[next - 1];
     }
     Ok(())
+}
+
+/// Rows that are listed one at a time. It is seen as the rows.
+#[derive(Drop)]
+pub struct Linked {
+    count: usize,
+    pairs: Vec<(u32, u32)>,
+    links: Links,
+}
+
+impl Model for Linked {
+    ghost use Rattle.std.specs.Prelude.{List, ℕ, ◌≡◌, length};
+    ghost use Rattle.horn_clauses.specs.Gathered.{gathered, AreLinks};
+
+    ghost Value = { List (List ℕ) };
+
+    ghost view = { λ l. gathered l.count l.pairs.items };
+
+    ghost invariant = { λ l. (length l.links.last.items ≡ l.count) ×
+        AreLinks l.pairs.items (length l.pairs.items) l.links.last.items l.links.before.items };
+}
+
+impl Linked {
+    /// How many rows there are.
+    pub fn len(&self) -> usize
+        ensures { result ≡ length self.now }
+    {
+        self.count
+    }
+
+    /// Lists the numbers of a row, in any order, in the place of what the list had.
+    pub fn list(&self, x: usize, row: &mut Vec<u32>) -> Result<(), AllocError>
+        requires { x < length self.now }
+        ensures { OnOk result ((n : ℕ) → Contains row.new.items n ↔
+            Contains (row_at self.now x) n) }
+    {
+        collect(&self.pairs, &self.links, x, row)
+    }
 }
 
 fn rows_of(alloc: Global, count: usize, pairs: &[(u32, u32)]) -> Result<Jagged<u32>, AllocError>

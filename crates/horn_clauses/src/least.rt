@@ -4,9 +4,8 @@ ghost use Rattle.horn_clauses.specs.Least.{IsLeastSet, AreBelow, IsSearch, Waits
 ghost use Rattle.horn_clauses.specs.Rows.{HasPlaces, HasAddedAll};
 
 use crate::clause_list::Clauses;
-use crate::gathered::Gathered;
+use crate::gathered::{Gathered, Linked};
 use crate::number_set::NumberSet;
-use jagged::Jagged;
 use std::alloc::{AllocError, Global};
 
 // The first place, not before the given one, whose number is not found yet.
@@ -38,7 +37,7 @@ fn add_clause(rows: &mut Gathered, body: &[u32], clause: u32) -> Result<(), Allo
 }
 
 // Where each number stands: the clauses that have it in their bodies.
-fn occurrences(alloc: Global, clauses: &Clauses, bound: usize) -> Result<Jagged<u32>, AllocError>
+fn occurrences(alloc: Global, clauses: &Clauses, bound: usize) -> Result<Linked, AllocError>
     requires few { length clauses.now < 2 ^ 32 }
     requires below { AreBelow bound clauses.now }
     ensures length { IfOk result (λ rows. length rows ≡ bound) }
@@ -48,7 +47,7 @@ fn occurrences(alloc: Global, clauses: &Clauses, bound: usize) -> Result<Jagged<
     for i in 0..clauses.len() {
         add_clause(&mut gathered, clauses.body(i), i as u32)?;
     }
-    gathered.rows(alloc)
+    gathered.linked(alloc)
 }
 
 // Goes on with a clause: past what is found, and to its head at the end.
@@ -104,10 +103,11 @@ fn visit(
     Ok(())
 }
 
-// Begins with each clause, and goes on from each number found, in the order of finding.
+// Begins with each clause, and goes on from each number found, in the order of finding. The row is room.
 fn close(
     clauses: &Clauses,
-    rows: &Jagged<u32>,
+    rows: &Linked,
+    row: &mut Vec<u32>,
     found: &mut NumberSet,
     places: &mut [usize],
 ) -> Result<(), AllocError>
@@ -121,25 +121,23 @@ fn close(
         let Some(x) = found.get(k) else {
             return Ok(());
         };
-        visit(clauses, rows.row(x as usize), found, places, k)?;
+        rows.list(x as usize, row)?;
+        visit(clauses, row, found, places, k)?;
     }
     let _len = found.len();
     Ok(())
 }
 
 // The search, from rows of where each number stands.
-fn search_rows(
-    alloc: Global,
-    clauses: &Clauses,
-    rows: &Jagged<u32>,
-) -> Result<NumberSet, AllocError>
+fn search_rows(alloc: Global, clauses: &Clauses, rows: &Linked) -> Result<NumberSet, AllocError>
     requires below { AreBelow (length rows.now) clauses.now }
     requires rows { HasPlaces clauses.now rows.now }
     ensures { IfOk result (λ found. IsLeastSet clauses.now found) }
 {
     let mut places = vec![in alloc; 0usize; clauses.len()]?;
-    let mut found = NumberSet::new(alloc);
-    close(clauses, rows, &mut found, &mut places)?;
+    let mut row = Vec::new(alloc);
+    let mut found = NumberSet::below(alloc, rows.len())?;
+    close(clauses, rows, &mut row, &mut found, &mut places)?;
     Ok(found)
 }
 

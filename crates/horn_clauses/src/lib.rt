@@ -7,6 +7,6 @@ mod least;
 mod number_set;
 
 pub use clause_list::Clauses;
-pub use gathered::Gathered;
+pub use gathered::{Gathered, Linked};
 pub use least::least_set;
 pub use number_set::NumberSet;

@@ -1,5 +1,5 @@
 //! Numbers in the order in which they were found.
-ghost use Rattle.std.specs.Prelude.{◌≡◌, ℕ, ◌<◌, ◌^◌, [], false, length, slice_get, slice_index_or, Contains, IsTrue, ◌↔◌, OnOk, OnErr};
+ghost use Rattle.std.specs.Prelude.{◌≡◌, ℕ, ◌<◌, ◌^◌, [], false, length, slice_get, slice_index_or, Contains, IsTrue, ◌↔◌, IfOk, OnOk, OnErr};
 ghost use Rattle.horn_clauses.specs.Least.{Adds};
 
 use std::alloc::{AllocError, Global};
@@ -33,6 +33,17 @@ impl NumberSet {
             order: Vec::new(alloc),
             marks: Vec::new(alloc),
         }
+    }
+
+    /// No numbers, with room to mark those below a bound.
+    pub fn below(alloc: Global, bound: usize) -> Result<NumberSet, AllocError>
+        ensures { IfOk result (λ set. set ≡ []) }
+    {
+        let marks = vec![in alloc; false; bound]?;
+        Ok(NumberSet {
+            order: Vec::new(alloc),
+            marks,
+        })
     }
 
     /// How many there are.

@@ -1,3 +1,4 @@
+mod Agreeing
 pub mod Listing
 pub mod Sorted
 pub mod Matching

@@ -1,5 +1,5 @@
 -- A table of steps, by states and classes, and the states that lists of starts begin with.
-use Rattle.std.proofs.Common.{◌≡◌, ◌⊎◌, inl, inr, ℕ, zero, suc, ◌+◌, ◌*◌, ◌<◌, ◌++◌, List, [], ◌∷◌, Bool, true, false, if◌then◌else◌, slice_get, Some, refl, sym, ap, ◌∙◌, subst, arith}
+use Rattle.std.proofs.Common.{◌≡◌, ◌⊎◌, inl, inr, ℕ, zero, suc, ◌+◌, ◌*◌, ◌<◌, List, [], ◌∷◌, Bool, true, false, if◌then◌else◌, slice_get, Some, refl, sym, ap, ◌∙◌, subst, arith}
 use Rattle.std.specs.Prelude.{slice_set, nat_eq}
 use Rattle.indexmap.specs.IndexMap.{insert_entry}
 use Rattle.std.specs.declared.vec.Vec.{Vec}
@@ -8,16 +8,6 @@ use Rattle.std.specs.Cmp.Lexicographic.{pointwise}
 use Rattle.std.proofs.lemmas.Bool.Decides.{Decides-eqb}
 use Rattle.std.proofs.lemmas.Slice.Eq.{slice_eq-Decides}
 use Rattle.lexer.specs.Machines.{IsNoted, HasBegin}
-
-got_pushed : (xs : List ℕ) (y k t : ℕ) → slice_get (xs ++ y ∷ []) k ≡ Some t → (slice_get xs k ≡ Some t) ⊎ (y ≡ t)
-got_pushed [] y zero t e = inr (cc)
-got_pushed [] y (suc k) t e = absurd (cc)
-got_pushed (x ∷ xs) y zero t e = inl e
-got_pushed (x ∷ xs) y (suc k) t e = got_pushed xs y k t e
-
--- an entry that is not known
-pub noted_pushed : (xs new : List ℕ) → new ≡ xs ++ 4294967295 ∷ [] → (s c t : ℕ) → IsNoted new s c t → IsNoted xs s c t
-noted_pushed xs new is s c t (e, known) = elim (got_pushed xs 4294967295 (s * 128 + c) t (subst (λ l. slice_get l (s * 128 + c) ≡ Some t) is e)) [ inl o ↦ (o, known) | inr same ↦ absurd (known (sym same)) ]
 
 got_set : (xs : List ℕ) (i v k t : ℕ) → slice_get (slice_set xs i v) k ≡ Some t → (slice_get xs k ≡ Some t) ⊎ ((k ≡ i) × (v ≡ t))
 got_set [] i v k t e = inl e

@@ -1,5 +1,5 @@
 //! Which state a list of starts begins with.
-ghost use Rattle.std.specs.Prelude.{◌≡◌, ℕ, ◌⊎◌, ◌↔◌, [], List, IfSome, IsTrue};
+ghost use Rattle.std.specs.Prelude.{◌≡◌, ℕ, ◌⊎◌, ◌↔◌, [], List, length, IfSome, IsTrue};
 ghost use Rattle.lexer.specs.Machines.{HasBegin};
 
 use indexmap::IndexMap;
@@ -22,10 +22,22 @@ impl Model for Begins {
     ghost view = { λ b. b.states.entries };
 }
 
+// Whether lists of one length are the same. All places are compared, so that many can be at once.
+fn agree(list: &[u32], starts: &[u32]) -> bool
+    requires { length list.now ≡ length starts.now }
+    ensures { IsTrue result ↔ (list.now ≡ starts.now) }
+{
+    let mut same = true;
+    for k in 0..list.len() {
+        same &= list[k] == starts[k];
+    }
+    same
+}
+
 fn is_same(list: &[u32], starts: &[u32]) -> bool
     ensures { IsTrue result ↔ (list.now ≡ starts.now) }
 {
-    list == starts
+    list.len() == starts.len() && agree(list, starts)
 }
 
 // The state at a place of the table, if its list is this one.

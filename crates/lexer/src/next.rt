@@ -41,10 +41,10 @@ fn lengthen(next: &mut Vec<u32>, place: usize) -> Result<(), AllocError>
     ensures same { (s c t : ℕ) → IsNoted next.new.items s c t → IsNoted next.old.items s c t }
     ensures long { OnOk result (place < length next.new.items) }
 {
-    for _ in next.len()..place + 1 {
-        next.push(UNKNOWN)?;
+    if place < next.len() {
+        return Ok(());
     }
-    Ok(())
+    next.resize(place + 1, UNKNOWN)
 }
 
 /// Notes what follows from a state by a class, unless there are so many states or too many.

@@ -12,5 +12,5 @@ loop-k-preserved c =
 pub returns : goal.returns
 returns c =
     let is = ap part_count c.rule.ensures.is in
-    let all : c.loop-k.k ≡ part_count (rule_at c.args.w.now c.args.i) = omega (arith, c.loop-k-test.false, c.loop-k.auto.k-end, c.count_parts-k-end.ensures, is) in
+    let all : c.loop-k.k ≡ part_count (rule_at c.args.w.now c.args.i) = omega (arith, c.loop-k-test.false, c.loop-k.auto.k-end, c.count_parts-count.ensures, is) in
     c.loop-k.invariant ∙ ap (λ n. map (part_in c.args.symbols.now (rule_at c.args.w.now c.args.i)) (numbers n)) all

@@ -1,25 +1,27 @@
 use Rattle.std.proofs.Common.{arith, sym, ◌∙◌, ap, subst, length, Contains, length-append, add-one}
 use Rattle.std.proofs.lemmas.List.Elements.{Contains-get_or}
 use Rattle.horn_clauses.specs.Least.{HasVisited, Waits}
-use Rattle.horn_clauses.proofs.Search.{visit_done, closed_all, found_below, got_at, got_none}
+use Rattle.jagged.specs.Rows.{row_at}
+use Rattle.horn_clauses.proofs.Search.{visit_done, visit_same, closed_all, found_below, got_at, got_none}
 use Rattle.horn_clauses.proofs.least.close.Goals as goal
 
 pub returns-in_default : goal.returns-in_default
 returns-in_default c = closed_all c.args.clauses.now c.loop-k.found c.loop-k.places c.loop-k.k c.loop-k.invariant.0 c.loop-k.invariant.1 (got_none c.loop-k.found c.loop-k.k c.in_default.ensures)
 
-pub row-requires : goal.row-requires
-row-requires c =
+pub list-requires : goal.list-requires
+list-requires c =
     let (lt, e) = got_at c.loop-k.found c.loop-k.k c.in-Some.x c.in-Some.ensures in
     found_below c.args.clauses.now (length c.args.rows.now) (length c.loop-k.found) c.in-Some.x c.requires.below
     (c.loop-k.invariant.0.derived c.in-Some.x (subst (Contains c.loop-k.found) e (Contains-get_or c.loop-k.found c.loop-k.k 0 lt)))
 
 pub visit-requires-clause-row : goal.visit-requires-clause-row
-visit-requires-clause-row c = λ i h. c.requires.rows.within c.in-Some.x i (subst (λ l. Contains l i) c.row.ensures h)
+visit-requires-clause-row c = λ i h. c.requires.rows.within c.in-Some.x i ((c.in_ok-list.ensures i).0 (subst (λ l. Contains l i) c.deref.ensures.value h))
 
 pub loop-k-preserved : goal.loop-k-preserved
 loop-k-preserved c =
     let (lt, e) = got_at c.loop-k.found c.loop-k.k c.in-Some.x c.in-Some.ensures in
-    let v = subst (λ l. HasVisited c.args.clauses.now c.loop-k.found l c.loop-k.k c.visit.new.found c.visit.new.places) c.row.ensures c.in_ok-visit.ensures in
+    let listed = subst (λ l. HasVisited c.args.clauses.now c.loop-k.found l c.loop-k.k c.visit.new.found c.visit.new.places) c.deref.ensures.value c.in_ok-visit.ensures in
+    let v = visit_same c.args.clauses.now c.loop-k.found c.loop-k.places c.list.new.row.items (row_at c.args.rows.now c.in-Some.x) c.loop-k.k c.visit.new.found c.visit.new.places c.in_ok-list.ensures listed in
     let (more, grown) = v.extends in
     let long = ap length grown ∙ length-append c.loop-k.found more in (
       v.search,

@@ -1,7 +1,7 @@
-use Rattle.std.proofs.Common.{arith, ◌≡◌, ◌∙◌, subst, sym, length, All, ◌<◌}
+use Rattle.std.proofs.Common.{arith, ◌≡◌, ◌∙◌, ap, subst, sym, ℕ, List, length, All, ◌<◌}
 use Rattle.std.proofs.lemmas.Result.{IfOk-weaker}
-use Rattle.horn_clauses.specs.Rows.{HasAddedAll, HasPlacesTo}
-use Rattle.horn_clauses.proofs.RowLemmas.{places_none, places_more, places_same}
+use Rattle.horn_clauses.specs.Rows.{HasAddedAll, HasPlacesTo, HasPlaces}
+use Rattle.horn_clauses.proofs.RowLemmas.{places_none, places_more}
 use Rattle.horn_clauses.proofs.least.occurrences.Goals as goal
 
 pub loop-i-init : goal.loop-i-init
@@ -20,9 +20,10 @@ loop-i-preserved c =
     )
 
 pub returns-clause-length : goal.returns-clause-length
-returns-clause-length c = IfOk-weaker c.rows.result _ _ (λ rows same. same.same_length ∙ c.loop-i.invariant.0) c.rows.ensures
+returns-clause-length c = IfOk-weaker c.linked.result _ _ (λ rows is. ap (λ (l : List (List ℕ)). length l) is ∙ c.loop-i.invariant.0) c.linked.ensures
 
 pub returns-clause-places : goal.returns-clause-places
 returns-clause-places c =
     let end : c.loop-i.i ≡ length c.args.clauses.now = omega (arith, c.loop-i-test.false, c.loop-i.auto.i-end, c.len-i-end.ensures) in
-    IfOk-weaker c.rows.result _ _ (places_same c.args.clauses.now c.loop-i.gathered (subst (HasPlacesTo c.args.clauses.now c.loop-i.gathered) end c.loop-i.invariant.1)) c.rows.ensures
+    let all : HasPlacesTo c.args.clauses.now c.loop-i.gathered (length c.args.clauses.now) = subst (HasPlacesTo c.args.clauses.now c.loop-i.gathered) end c.loop-i.invariant.1 in
+    IfOk-weaker c.linked.result _ _ (λ (rows : List (List ℕ)) is. subst (HasPlaces c.args.clauses.now) (sym is) (record { within = all.within; all = all.all })) c.linked.ensures
