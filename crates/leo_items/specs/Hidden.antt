@@ -38,7 +38,7 @@ LeadsUpIn g rows earleme item topmost = (item.origin < earleme) × LeadsIn g row
 
 -- a whole item of the row of which completions lead there
 abbrev pub IsBottomIn : FlatGrammar → List (List Item) → (earleme : ℕ) → (topmost item : Item) → Type 0
-IsBottomIn g rows earleme topmost item = Contains (row_at rows earleme) item × IsWhole g item × LeadsUpIn g rows earleme item topmost
+IsBottomIn g rows earleme topmost item = Contains (row_at rows earleme) item × IsWhole g item × (item.origin < earleme) × LeadsIn g rows item.origin (lhs_of g item.rule) topmost
 
 -- one that is not in the row
 abbrev pub IsBelowIn : FlatGrammar → List (List Item) → (earleme : ℕ) → (topmost item : Item) → Type 0
