@@ -1,5 +1,6 @@
 -- What a forest tells of the derivations of a reading.
-use Rattle.std.proofs.Common.{◌≡◌, ℕ, ◌+◌, ◌≤◌, List, [], Option, Some, None, length, refl, sym, subst, ◌∙◌, arith, slice_get, slice_index_or}
+use Rattle.std.proofs.Common.{◌≡◌, ℕ, ◌+◌, ◌≤◌, Bool, List, [], Option, Some, None, length, map, refl, sym, subst, ◌∙◌, arith, slice_get, slice_index_or}
+use Rattle.std.specs.Prelude.{IfSome}
 use Rattle.std.specs.List.Sorted.{IsStrictlySortedBy}
 use Rattle.std.proofs.lemmas.Option.{slice_get-get_or}
 use Rattle.finite_sets.proofs.Lists.{Contains-none, get_index}
@@ -13,6 +14,7 @@ use Rattle.grammar_model.specs.declared.Ranking.{Ranking}
 use Rattle.grammar_model.specs.Order.{rank_order, tree_cmp}
 use Rattle.grammar_model.specs.Chosen.{AreChosen}
 use Rattle.grammar_model.specs.declared.limits.TheConstants.{LONGEST_INPUT}
+use Rattle.grammar_core.specs.Steps.{step_of}
 use Rattle.grammar_core.specs.declared.steps.Span.{Span}
 use Rattle.recognizer_model.specs.declared.flat.FlatSymbol.TheVariants.{Top}
 use Rattle.recognizer_model.specs.Flat.{lhs_of}
@@ -39,9 +41,10 @@ use Rattle.text_reading.specs.Refusals.{IsNoDerivation}
 use Rattle.forest_parts.specs.Hidden.{RisesWithin}
 use Rattle.forest_parts.proofs.Counting.{rises_of, rises_most}
 use Rattle.bocage.specs.Expanded.{IsExpandedIn, IsHiddenNode, IsGivenIn}
-use Rattle.value_lines.specs.Writing.{IsAllAsked}
+use Rattle.first_walk.specs.declared.walk.Walked.{Walked}
 use Rattle.first_walk.specs.Place.{reading_of}
-use Rattle.text_reading.specs.Parts.{IsChosenOf, HasForest, HasOnly, BuildsWithin, AreExpectedOf}
+use Rattle.first_walk.specs.Walk.{IsFirstDerivation}
+use Rattle.text_reading.specs.Parts.{IsChosenOf, HasFirst, HasForest, ForGiven, BuildsWithin, AreExpectedOf}
 
 -- A FOREST HAS A DERIVATION
 
@@ -127,13 +130,13 @@ module _ (b : Built) (given : List ℕ) (ranking : Ranking) (cs : List ℕ) (rec
       let some = has_derivation f is in
       has_some f some.0 some.1 (written ∙ same) flat start edges place ranked
 
-  -- one derivation that is all that is asked for, without a forest
-  pub has_only : (w : Grammar) → w ≡ b.g1 → (first : Option ℕ) (list : List Step) → IsAllAsked (reading_of w ranking recce) first list → HasOnly b given ranking first cs spans recce list
-  has_only w same first list asked =
-      let here : IsAllAsked (reading_of b.g1 ranking recce) first list = subst (λ (x : Grammar). IsAllAsked (reading_of x ranking recce) first list) same asked in
+  -- the first derivation, without a forest
+  pub has_first : (w : Grammar) → w ≡ b.g1 → (list : List Step) (alone : Bool) → IsFirstDerivation (reading_of w ranking recce) list alone → HasFirst b given ranking cs spans recce list alone
+  has_first w same list alone is =
+      let here : IsFirstDerivation (reading_of b.g1 ranking recce) list alone = subst (λ (x : Grammar). IsFirstDerivation (reading_of x ranking recce) list alone) same is in
       record {
         has = has_some (reading_of b.g1 ranking recce) here.tree ((here.listing.each here.tree).0 (0, omega arith, refl)) refl refl refl refl refl refl;
-        asked = here;
+        first = here;
       }
 
   -- no tree, no derivation
@@ -163,6 +166,18 @@ module _ (b : Built) (given : List ℕ) (ranking : Ranking) (cs : List ℕ) (rec
     told = told;
     place_is = where_is;
   }
+
+-- WHERE THE FIRST DERIVATION IS FOUND
+
+module _ (b : Built) (ranking : Ranking) (cs : List ℕ) (recce : Recognizer) (spans : List Span) where
+  -- whatever lexemes were given
+  abbrev pub IsFound : Walked → Type 0
+  IsFound walked = ForGiven b cs recce spans AtEnd (λ given. HasFirst b given ranking cs spans recce (map step_of walked.steps.items) walked.alone)
+
+  pub first_found : length cs ≤ LONGEST_INPUT → (w : Grammar) → w ≡ b.g1 → (found : Option Walked) → IfSome found (λ (walked : Walked). IsFirstDerivation (reading_of w ranking recce) (map step_of walked.steps.items) walked.alone) →
+      IfSome found IsFound
+  first_found few w same None is = is
+  first_found few w same (Some walked) is = λ given read. has_first b given ranking cs recce spans few read w same (map step_of walked.steps.items) walked.alone is
 
 -- the steps of a forest, by an equal grammar
 pub builds_within : (recce : Recognizer) (ranking : Ranking) (w g : Grammar) (before after : ℕ) → w ≡ g → BuildsWithin w ranking recce before after → BuildsWithin g ranking recce before after

@@ -1,5 +1,5 @@
 -- What is known where a part of the way from bytes to what is read stops.
-use Rattle.std.specs.Prelude.{◌≡◌, ℕ, ◌+◌, ◌≤◌, List, [], ◌∷◌, ◌++◌, Option, Some, None, map, codes, decimal, IsUtf8, slice_index_or}
+use Rattle.std.specs.Prelude.{◌≡◌, ℕ, ◌+◌, ◌≤◌, Bool, List, [], ◌∷◌, ◌++◌, Option, Some, None, map, codes, decimal, IsUtf8, slice_index_or}
 use Rattle.std.specs.Str.{IsValidUpTo}
 use Rattle.grammar_model.specs.Grammar.{Grammar, slot_of}
 use Rattle.grammar_model.specs.Trees.{Tree}
@@ -28,6 +28,7 @@ use Rattle.scanless.specs.declared.reading.Ending.{Ending}
 use Rattle.value_lines.specs.Lines.{IsForestOf}
 use Rattle.value_lines.specs.Writing.{IsAllAsked}
 use Rattle.first_walk.specs.Place.{reading_of}
+use Rattle.first_walk.specs.Walk.{IsFirstDerivation}
 use Rattle.text_reading.specs.declared.refusal.Place.{Place}
 use Rattle.text_reading.specs.Refusals.{place_in, fault_at}
 
@@ -113,6 +114,11 @@ pub record HasForest (b : Built) (given : List ℕ) (ranking : Ranking) (cs : Li
   pub ranking_is : f.ranking ≡ ranking
   pub tree : Tree
   pub chosen : IsChosenOf b.g1 (edges_of pieces) ranking 0 (earleme_after pieces) tree
+
+-- of the characters' chosen derivations, with these lexemes given, the first one has these steps, and whether it is the only one
+pub record HasFirst (b : Built) (given : List ℕ) (ranking : Ranking) (cs : List ℕ) (spans : List Span) (r : Recognizer) (steps : List Step) (alone : Bool) : Type 0 where
+  pub has : HasForest b given ranking cs spans (reading_of b.g1 ranking r)
+  pub first : IsFirstDerivation (reading_of b.g1 ranking r) steps alone
 
 -- of the characters' chosen derivations, with these lexemes given, so many of the first are one, which has these steps
 pub record HasOnly (b : Built) (given : List ℕ) (ranking : Ranking) (first : Option ℕ) (cs : List ℕ) (spans : List Span) (r : Recognizer) (steps : List Step) : Type 0 where

@@ -1,5 +1,5 @@
 // The forest of a reading.
-ghost use Rattle.std.specs.Prelude.{◌≡◌, ℕ, ◌+◌, ◌≤◌, ◌∷◌, [], List, None, length, map, IfOk, IfErr, IfSome, IsTrue, OnOk};
+ghost use Rattle.std.specs.Prelude.{◌≡◌, ℕ, ◌+◌, ◌≤◌, ◌∷◌, [], List, None, length, map, IfOk, IfErr, IfSome, IsNone, IsTrue, OnOk};
 ghost use Rattle.grammar_core.specs.Steps.{step_of};
 ghost use Rattle.grammar_model.specs.declared.limits.TheConstants.{LONGEST_INPUT};
 ghost use Rattle.scanless.specs.declared.reading.Ending.TheVariants.{End};
@@ -9,14 +9,14 @@ ghost use Rattle.grammar_model.specs.Trees.{Tree};
 ghost use Rattle.run_model.specs.Listing.{first_of};
 ghost use Rattle.forest_parts.specs.Given.{items_in};
 ghost use Rattle.bocage.specs.Given.{AreGivenFor};
-ghost use Rattle.text_reading.specs.Parts.{HasForest, HasOnly, BuildsWithin, HoldsSome, AreExpectedOf, IsSomeReading, ForGiven};
+ghost use Rattle.text_reading.specs.Parts.{HasFirst, HasForest, HasOnly, BuildsWithin, HoldsSome, AreExpectedOf, IsSomeReading, ForGiven};
 
 use crate::Refusal;
 use crate::inputs::append_names;
 use bocage::{Forest, ForestRefusal};
 use bumpalo::Bump;
 use earley_sets::trees_are_derivations;
-use first_walk::first_derivation;
+use first_walk::{Walked, first_derivation};
 use forest_parts::Given;
 use grammar_core::TreeStep;
 use grammar_model::Ranking;
@@ -110,8 +110,57 @@ fn is_all_asked(first: Option<u32>, alone: bool) -> bool
     }
 }
 
-/// The steps of the first derivation, found without a forest, where it is all that is told of so many of the first, or of all; or the
-/// input ended without one. Hidden items that were brought back stand in `before`.
+/// The first derivation, found without a forest, and whether it is the only one; or the input ended without one. With `only` the answer
+/// may be `None` where there are others. Hidden items that were brought back stand in `before`.
+pub fn first_of<L: Ledger>(
+    alloc: Global,
+    prepared: &Prepared,
+    ranking: Ranking,
+    only: bool,
+    chars: &Chars,
+    reading: &Reading<'_>,
+    before: &mut Given,
+    steps: &mut Steps<L>,
+) -> Result<Option<Walked>, Refusal>
+    requires few { length chars.now ≤ LONGEST_INPUT }
+    requires read { IsSomeReading prepared.now chars.now reading.now.recce
+        reading.now.spans.items End }
+    requires before { before.old ≡ [] }
+    ensures first { IfOk result (λ found. IfSome found (λ walked.
+        ForGiven prepared.now chars.now reading.now.recce reading.now.spans.items End
+        (λ given. HasFirst prepared.now given ranking chars.now reading.now.spans.items
+        reading.now.recce (map step_of walked.steps.items) walked.alone))) }
+    ensures none { IfOk result (λ found. IsNone found → IsTrue only) }
+    ensures refused { IfErr result (λ refusal.
+        ForGiven prepared.now chars.now reading.now.recce reading.now.spans.items End
+        (λ given. TellsInput (IsNoDerivation prepared.now given ranking chars.now) refusal)) }
+    ensures before { OnOk result (AreGivenFor prepared.now.g1 ranking reading.now.recce before.new) }
+    ensures told { OnOk result (steps.new ≡ steps.old + items_in before.new) }
+    ensures counted { BuildsWithin prepared.now.g1 ranking reading.now.recce steps.old steps.new }
+{
+    trees_are_derivations();
+    prepared.known();
+    let _flat = prepared.flat();
+    let _place = reading.recce.place();
+    // The characters stand in the contract alone.
+    let _ = chars;
+    if !reading.recce.at_end() {
+        return Err(no_derivation(alloc, prepared, reading)?);
+    }
+    let found = first_derivation(
+        alloc,
+        &reading.recce,
+        prepared.written(),
+        ranking,
+        only,
+        before,
+        steps,
+    )?;
+    Ok(found)
+}
+
+/// The steps of the first derivation, where it is all that is told of so many of the first, or of all; or the input ended without one.
+/// Hidden items that were brought back stand in `before`.
 pub fn only_of<L: Ledger>(
     alloc: Global,
     prepared: &Prepared,
@@ -137,27 +186,19 @@ pub fn only_of<L: Ledger>(
     ensures told { OnOk result (steps.new ≡ steps.old + items_in before.new) }
     ensures counted { BuildsWithin prepared.now.g1 ranking reading.now.recce steps.old steps.new }
 {
-    trees_are_derivations();
-    prepared.known();
-    let _flat = prepared.flat();
-    let _place = reading.recce.place();
-    // The characters stand in the contract alone.
-    let _ = chars;
-    if !reading.recce.at_end() {
-        return Err(no_derivation(alloc, prepared, reading)?);
-    }
-    let found = first_derivation(
+    match first_of(
         alloc,
-        &reading.recce,
-        prepared.written(),
+        prepared,
         ranking,
         first != Some(1),
+        chars,
+        reading,
         before,
         steps,
-    )?;
-    match found {
-        Some(walked) if is_all_asked(first, walked.alone) => Ok(Some(walked.steps)),
-        _ => Ok(None),
+    ) {
+        Ok(Some(walked)) if is_all_asked(first, walked.alone) => Ok(Some(walked.steps)),
+        Ok(_) => Ok(None),
+        Err(refusal) => Err(refusal),
     }
 }
 

@@ -10,7 +10,7 @@ mod phrases;
 mod refusal;
 mod supplying;
 
-pub use forests::{forest_after, forest_of, only_of};
+pub use forests::{first_of, forest_after, forest_of, only_of};
 pub use grammar::{grammar_of, long_grammar_text, read_grammar};
 pub use inputs::{append_names, input_chars, input_too_long, long_input_text, read_text, whole};
 pub use lexemes::lexeme_named;

@@ -1,52 +1,21 @@
-use Rattle.std.proofs.Common.{◌≡◌, ◌∙◌, None, map, subst, sym}
+use Rattle.std.proofs.Common.{subst}
 use Rattle.std.specs.Prelude.{IfSome}
-use Rattle.std.proofs.lemmas.Bool.{false≢true}
-use Rattle.grammar_core.specs.Steps.{step_of}
-use Rattle.grammar_model.specs.Grammar.{Grammar}
-use Rattle.bocage.specs.Given.{AreGivenFor}
-use Rattle.first_walk.specs.declared.walk.Walked.{Walked}
-use Rattle.first_walk.specs.Place.{reading_of}
-use Rattle.first_walk.specs.Walk.{IsFirstDerivation}
-use Rattle.run_model.specs.Telling.{no_derivation_text}
-use Rattle.text_reading.specs.Refusals.{IsNoDerivation}
-use Rattle.text_reading.specs.Parts.{AreExpectedOf}
-use Rattle.text_reading.proofs.Derived.{has_only, no_derivation, given_within}
-use Rattle.text_reading.proofs.InputLemmas.{input_weaker}
+use Rattle.text_reading.proofs.Derived.{IsFound}
 use Rattle.text_reading.proofs.forests.only_of.Goals as goal
 
-pub returns-then-not-at_end-clause-refused : goal.returns-then-not-at_end-clause-refused
-returns-then-not-at_end-clause-refused g c given read =
-    input_weaker
-    (λ text place expected. AreExpectedOf c.args.prepared.now c.args.reading.now.recce expected × (text ≡ no_derivation_text c.args.prepared.now.g1 expected) × (place ≡ None))
-    (IsNoDerivation c.args.prepared.now given c.args.ranking c.args.chars.now)
-    (λ text place expected told. no_derivation c.args.prepared.now given c.args.ranking c.args.chars.now c.args.reading.now.recce c.args.reading.now.spans.items c.requires.few read
-    c.trees_are_derivations.ensures c.flat-flat.ensures.checked c.place-place.ensures.is (λ tree. false≢true (sym c.if-not-at_end.true ∙ c.at_end.ensures.1 tree)) text place expected told.0 told.1 told.2)
-    c.in_ok-no_derivation.field-0 c.in_ok-no_derivation.ensures
-
-pub returns-in-Some-clause-only : goal.returns-in-Some-clause-only
-returns-in-Some-clause-only g c given read =
-    let w = c.written.result.now in
-    let first = subst (λ o. IfSome o (λ (walked : Walked). IsFirstDerivation (reading_of w c.args.ranking c.args.reading.now.recce) (map step_of walked.steps.items) walked.alone)) c.in-Some.is c.in_ok-found.ensures.first in
-    has_only c.args.prepared.now given c.args.ranking c.args.chars.now c.args.reading.now.recce c.args.reading.now.spans.items c.requires.few read w c.written.ensures c.args.first _
-    (record {
-      tree = first.tree;
-      others = first.others;
-      listing = first.listing;
-      alone = c.is_all_asked.ensures c.if-is_all_asked.true first.tree first.others first.only.0;
-      steps_are = first.is;
-    })
-
-pub returns-in_err-found-clause-counted : goal.returns-in_err-found-clause-counted
-returns-in_err-found-clause-counted g c = given_within c.args.reading.now.recce c.args.ranking c.written.result.now c.args.prepared.now.g1 _ _ c.written.ensures c.first_derivation.ensures.counted
-
-pub returns-in-Some-clause-counted : goal.returns-in-Some-clause-counted
-returns-in-Some-clause-counted g c = given_within c.args.reading.now.recce c.args.ranking c.written.result.now c.args.prepared.now.g1 _ _ c.written.ensures c.first_derivation.ensures.counted
-
-pub returns-in_default-clause-counted : goal.returns-in_default-clause-counted
-returns-in_default-clause-counted g c = given_within c.args.reading.now.recce c.args.ranking c.written.result.now c.args.prepared.now.g1 _ _ c.written.ensures c.first_derivation.ensures.counted
-
-pub returns-in-Some-clause-before : goal.returns-in-Some-clause-before
-returns-in-Some-clause-before g c = subst (λ (w : Grammar). AreGivenFor w c.args.ranking c.args.reading.now.recce c.first_derivation.new.given) c.written.ensures c.in_ok-found.ensures.given
-
-pub returns-in_default-clause-before : goal.returns-in_default-clause-before
-returns-in_default-clause-before g c = subst (λ (w : Grammar). AreGivenFor w c.args.ranking c.args.reading.now.recce c.first_derivation.new.given) c.written.ensures c.in_ok-found.ensures.given
+pub returns-in-Ok-Some-clause-only : goal.returns-in-Ok-Some-clause-only
+returns-in-Ok-Some-clause-only g c given read =
+    let b = c.args.prepared.now in
+    let reading = c.args.reading.now in
+    let found = subst (λ o. IfSome o (IsFound b c.args.ranking c.args.chars.now reading.recce reading.spans.items)) c.in-Ok-Some.field-0-is c.in-Ok-Some.ensures.first in
+    let first = found given read in
+    record {
+      has = first.has;
+      asked = record {
+        tree = first.first.tree;
+        others = first.first.others;
+        listing = first.first.listing;
+        alone = c.is_all_asked.ensures c.if-is_all_asked.true first.first.tree first.first.others first.first.only.0;
+        steps_are = first.first.is;
+      };
+    }
