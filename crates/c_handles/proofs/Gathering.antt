@@ -1,5 +1,6 @@
 -- What is kept while derivations are given one after another.
-use Rattle.std.proofs.Common.{◌≡◌, ℕ, zero, suc, ◌+◌, ◌<◌, ◌≤◌, Bool, true, false, List, [], ◌∷◌, ◌++◌, Option, Some, None, length, map, take, drop, refl, sym, ap, ◌∙◌, subst, arith}
+use Rattle.std.proofs.Common.{◌≡◌, ℕ, zero, suc, ◌+◌, ◌<◌, ◌≤◌, ◌↔◌, ◌⊎◌, inl, inr, not, Bool, true, false, List, [], ◌∷◌, ◌++◌, Option, Some, None, length, map, take, drop, refl, sym, ap, ◌∙◌, subst, arith}
+use Rattle.std.specs.Prelude.{IsTrue}
 use Rattle.std.proofs.lemmas.Bool.{both_ways}
 use Rattle.std.proofs.lemmas.List.{append_assoc, length_push, length-append, map_push, drop_at, take_all, take_at, drop_all}
 use Rattle.grammar_model.specs.Trees.{Tree}
@@ -7,12 +8,12 @@ use Rattle.grammar_model.specs.Steps.{steps_of}
 use Rattle.grammar_model.specs.declared.Ranking.{Ranking}
 use Rattle.grammar_model.specs.declared.Show.{Show}
 use Rattle.tree_iter.specs.Iteration.{Iteration, AreGiven}
-use Rattle.slif_parser.specs.Views.{Read, ForestOf, DerivationsOf}
-use Rattle.slif_parser.specs.Readings.{AreAll, IsForestAs, IsNext, IsPrefixOfAll}
+use Rattle.slif_parser.specs.Views.{Read, ForestOf, FirstOf, DerivationsOf}
+use Rattle.slif_parser.specs.Readings.{AreAll, AreAllOf, IsFirst, IsForestAs, IsNext, IsPrefixOfAll}
 use Rattle.slif_parser.specs.Shown.{shown_line}
 use Rattle.c_handles.specs.declared.parse.Parse.{Parse}
 use Rattle.c_handles.specs.declared.steps.Step.{Step}
-use Rattle.c_handles.specs.Kept.{AreAllOf, AreSome, laid_tree, lines_of}
+use Rattle.c_handles.specs.Kept.{AreSome, IsOne, laid_tree, lines_of}
 
 -- ONE AFTER ANOTHER
 
@@ -62,9 +63,7 @@ take_none zero l e = refl
 take_none (suc n) l e = ap (take (suc n)) e
 
 pub all_of : (r : Read) (ranking : Ranking) (d : DerivationsOf) (trees : List Tree) → d.read ≡ r → d.iteration.forest.ranking ≡ ranking → AreAll d trees → AreAllOf r ranking trees
-all_of r ranking d trees same ranked all =
-    let are : AreAllOf d.read d.iteration.forest.ranking trees = record { pieces = all.pieces; reading = all.reading; all = all.all } in
-    subst (λ (read : Read). AreAllOf read ranking trees) same (subst (λ k. AreAllOf d.read k trees) ranked are)
+all_of r ranking d trees same ranked all = subst (λ (read : Read). AreAllOf read ranking trees) same (subst (λ k. AreAllOf d.read k trees) ranked all)
 
 module _ (r : Read) (ranking : Ranking) (shown : Option Show) (d : DerivationsOf) (same : d.read ≡ r) (ranked : d.iteration.forest.ranking ≡ ranking) (given : List Tree) (most : ℕ) (p : Parse) where
   abbrev rows : List (List Step)
@@ -108,19 +107,64 @@ module _ (r : Read) (ranking : Ranking) (shown : Option Show) (d : DerivationsOf
   ended it n k all false told answer known = no_more it n k (omega (arith, all)) told answer
 
 -- there are not so many
-pub too_few : (r : Read) (ranking : Ranking) (shown : Option Show) (d : DerivationsOf) (skip most : ℕ) (p : Parse) → d.read ≡ r → d.iteration.forest.ranking ≡ ranking → (trees : List Tree) × AreAll d trees × (length trees < skip) →
-    p.derivations.items ≡ [] → p.lines.items ≡ [] → p.more ≡ false → AreSome r ranking shown skip most p
-too_few r ranking shown d skip most p same ranked (trees, all, few) no_rows none_told none =
-    let front : [] ≡ take most (drop skip trees) = sym (take_none most (drop skip trees) (drop_all skip trees (omega (arith, few)))) in
+none_kept : (r : Read) (ranking : Ranking) (shown : Option Show) (skip most : ℕ) (p : Parse) (trees : List Tree) → AreAllOf r ranking trees → length trees ≤ skip → p.derivations.items ≡ [] → p.lines.items ≡ [] → p.more ≡ false →
+    AreSome r ranking shown skip most p
+none_kept r ranking shown skip most p trees all few no_rows none_told none =
+    let front : [] ≡ take most (drop skip trees) = sym (take_none most (drop skip trees) (drop_all skip trees few)) in
     record {
       trees = trees;
-      all = all_of r ranking d trees same ranked all;
+      all = all;
       kept = ap (map (λ steps. steps.items)) no_rows ∙ ap (map (laid_tree r)) front;
       lines = ap (map (λ line. line.items)) none_told ∙ (sym (no_lines r shown) ∙ ap (lines_of r shown) front);
       more = (λ is. absurd (both_ways p.more none is), λ lt. absurd (omega (arith, lt, few)));
     }
 
+pub too_few : (r : Read) (ranking : Ranking) (shown : Option Show) (d : DerivationsOf) (skip most : ℕ) (p : Parse) → d.read ≡ r → d.iteration.forest.ranking ≡ ranking → (trees : List Tree) × AreAll d trees × (length trees < skip) →
+    p.derivations.items ≡ [] → p.lines.items ≡ [] → p.more ≡ false → AreSome r ranking shown skip most p
+too_few r ranking shown d skip most p same ranked (trees, all, few) = none_kept r ranking shown skip most p trees (all_of r ranking d trees same ranked all) (omega (arith, few))
+
 -- what holds of a forest of the reading holds of the reading
-pub of_reading : (r : Read) (ranking : Ranking) (shown : Option Show) (f : ForestOf) (skip most : ℕ) (p : Parse) → IsForestAs r ranking f → AreSome f.read f.forest.ranking shown skip most p → AreSome r ranking shown skip most p
-of_reading r ranking shown f skip most p has some =
-    subst (λ (read : Read). AreSome read ranking shown skip most p) has.read_is (subst (λ k. AreSome f.read k shown skip most p) has.has.ranking_is some)
+pub of_forest : (r : Read) (ranking : Ranking) (shown : Option Show) (f : ForestOf) (skip most : ℕ) (p : Parse) → IsForestAs r ranking f → AreSome r f.forest.ranking shown skip most p → AreSome r ranking shown skip most p
+of_forest r ranking shown f skip most p has some = subst (λ k. AreSome r k shown skip most p) has.has.ranking_is some
+
+-- THE FIRST ALONE
+
+front_is : (most : ℕ) (tree : Tree) (others : List Tree) → 0 < most → (most ≡ 1) ⊎ (others ≡ []) → take most (tree ∷ others) ≡ tree ∷ []
+front_is zero tree others some few = absurd (omega (arith, some))
+front_is (suc n) tree others some (inl one) = ap (λ m. take m (tree ∷ others)) one
+front_is (suc n) tree others some (inr none) = ap (λ l. tree ∷ l) (take_none n others none)
+
+more_is : (only more : Bool) (most : ℕ) (others : List Tree) → 0 < most → (most ≡ 1) ⊎ (others ≡ []) → IsTrue only ↔ (others ≡ []) → more ≡ not only → IsTrue more ↔ (most < suc (length others))
+more_is only more most [] some few o is = (λ told. absurd (both_ways more (is ∙ ap not (o.1 refl)) told), λ lt. absurd (omega (arith, lt, some)))
+more_is only more most (t ∷ ts) some (inr none) o is = absurd (cc none)
+more_is true more most (t ∷ ts) some (inl one) o is = absurd (cc (o.0 refl))
+more_is false more most (t ∷ ts) some (inl one) o is = (λ told. omega (arith, one), λ lt. is)
+
+pub one_some : (r : Read) (ranking : Ranking) (shown : Option Show) (f : FirstOf) (skip most : ℕ) (p : Parse) → IsFirst r ranking f → IsOne r shown f p → skip ≡ 0 → 0 < most → (most ≡ 1) ⊎ IsTrue f.only → AreSome r ranking shown skip most p
+one_some r ranking shown f skip most p first one none some few =
+    let last : (most ≡ 1) ⊎ (first.others ≡ []) = elim few [ | inl is ↦ inl is | inr only ↦ inr (first.only.0 only) ] in
+    let front = front_is most first.tree first.others some last in
+    subst (λ n. AreSome r ranking shown n most p) (sym none) (record {
+      trees = first.tree ∷ first.others;
+      all = first.all;
+      kept = one.kept first.tree first.steps_are ∙ ap (map (laid_tree r)) (sym front);
+      lines = one.lines first.tree first.steps_are ∙ ap (lines_of r shown) (sym front);
+      more = more_is f.only p.more most first.others some last first.only one.more;
+    })
+
+-- the only one is passed over
+pub only_passed : (r : Read) (ranking : Ranking) (shown : Option Show) (f : FirstOf) (skip most : ℕ) (p : Parse) → IsFirst r ranking f → IsTrue f.only → 0 < skip → p.derivations.items ≡ [] → p.lines.items ≡ [] → p.more ≡ false →
+    AreSome r ranking shown skip most p
+only_passed r ranking shown f skip most p first only some =
+    none_kept r ranking shown skip most p (first.tree ∷ first.others) first.all (omega (arith, some, ap length (first.only.0 only)))
+
+-- none is asked for
+pub none_asked : (r : Read) (ranking : Ranking) (shown : Option Show) (f : FirstOf) (skip most : ℕ) (p : Parse) → IsFirst r ranking f → skip ≡ 0 → most ≡ 0 → p.derivations.items ≡ [] → p.lines.items ≡ [] → p.more ≡ true → AreSome r ranking shown skip most p
+none_asked r ranking shown f skip most p first none zero_is no_rows none_told told =
+    subst (λ n. AreSome r ranking shown n most p) (sym none) (subst (λ n. AreSome r ranking shown 0 n p) (sym zero_is) (record {
+      trees = first.tree ∷ first.others;
+      all = first.all;
+      kept = ap (map (λ steps. steps.items)) no_rows;
+      lines = ap (map (λ line. line.items)) none_told ∙ sym (no_lines r shown);
+      more = (λ is. omega arith, λ lt. told);
+    }))

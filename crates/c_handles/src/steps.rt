@@ -3,7 +3,7 @@ ghost use Rattle.std.specs.Prelude.{◌≡◌, IfOk, length, map};
 ghost use Rattle.grammar_core.specs.Steps.{step_of};
 ghost use Rattle.c_handles.specs.Steps.{byte_at, laid, step_over};
 
-use slif_parser::{Forest, NoMemory, TreeStep};
+use slif_parser::{NoMemory, Reading, TreeStep};
 use std::alloc::Global;
 
 pub const TOKEN: u32 = 0;
@@ -29,18 +29,18 @@ pub struct Step {
 }
 
 // The byte at which a character begins, or the text ends.
-fn byte_of(forest: &Forest<'_>, character: u32) -> usize
-    ensures { result ≡ byte_at forest.now.read.characters character }
+fn byte_of(reading: &Reading<'_>, character: u32) -> usize
+    ensures { result ≡ byte_at reading.now.characters character }
 {
-    forest.text(0, character).len()
+    reading.text(0, character).len()
 }
 
-fn step_with(forest: &Forest<'_>, kind: u32, number: u32, children: u32, from: u32, to: u32) -> Step
-    ensures { result ≡ step_over forest.now.read kind number children from to }
+fn step_with(reading: &Reading<'_>, kind: u32, number: u32, children: u32, from: u32, to: u32) -> Step
+    ensures { result ≡ step_over reading.now kind number children from to }
 {
-    let start = forest.start(from);
-    let end = forest.end(to);
-    let byte = byte_of(forest, start);
+    let start = reading.start(from);
+    let end = reading.end(to);
+    let byte = byte_of(reading, start);
     Step {
         kind,
         number,
@@ -50,37 +50,37 @@ fn step_with(forest: &Forest<'_>, kind: u32, number: u32, children: u32, from: u
         start,
         length: end.saturating_sub(start),
         byte,
-        bytes: byte_of(forest, end).saturating_sub(byte),
+        bytes: byte_of(reading, end).saturating_sub(byte),
     }
 }
 
-fn step_as_laid(forest: &Forest<'_>, step: TreeStep) -> Step
-    ensures { result ≡ laid forest.now.read (step_of step) }
+fn step_as_laid(reading: &Reading<'_>, step: TreeStep) -> Step
+    ensures { result ≡ laid reading.now (step_of step) }
 {
     match step {
-        TreeStep::Token { symbol, from, to } => step_with(forest, TOKEN, symbol.0, 0, from, to),
-        TreeStep::Nulled { symbol, at } => step_with(forest, NULLED, symbol.0, 0, at, at),
+        TreeStep::Token { symbol, from, to } => step_with(reading, TOKEN, symbol.0, 0, from, to),
+        TreeStep::Nulled { symbol, at } => step_with(reading, NULLED, symbol.0, 0, at, at),
         TreeStep::Rule {
             rule,
             children,
             from,
             to,
-        } => step_with(forest, RULE, rule.0, children, from, to),
+        } => step_with(reading, RULE, rule.0, children, from, to),
     }
 }
 
 /// The steps of a derivation, with where they lie.
 pub fn laid_steps(
     alloc: Global,
-    forest: &Forest<'_>,
+    reading: &Reading<'_>,
     steps: &[TreeStep],
 ) -> Result<Vec<Step>, NoMemory>
     ensures { IfOk result
-        (λ all. all.items ≡ map (laid forest.now.read) (map step_of steps.now)) }
+        (λ all. all.items ≡ map (laid reading.now) (map step_of steps.now)) }
 {
     let mut all = Vec::with_capacity(alloc, steps.len())?;
     for step in steps {
-        all.push(step_as_laid(forest, *step))?;
+        all.push(step_as_laid(reading, *step))?;
     }
     Ok(all)
 }

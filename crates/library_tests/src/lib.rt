@@ -8,6 +8,8 @@ mod cursors;
 #[cfg(test)]
 mod differences;
 #[cfg(test)]
+mod first;
+#[cfg(test)]
 mod lines;
 #[cfg(test)]
 mod read;

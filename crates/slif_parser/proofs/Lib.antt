@@ -6,3 +6,4 @@ mod Ruled
 mod Clipping
 mod Cursors
 mod Showing
+mod Firsts

@@ -1,7 +1,7 @@
 -- What is known of an input that is read, of its forest, and of its derivations. The derivations are those of the run.
-use Rattle.std.specs.Prelude.{◌≡◌, ℕ, zero, suc, ◌+◌, ◌≤◌, Bool, true, false, List, [], ◌∷◌, ◌++◌, Option, None, Some, IfSome, Result, length, map, slice_get, slice_index_or, chars, Contains}
+use Rattle.std.specs.Prelude.{◌≡◌, ℕ, zero, suc, ◌+◌, ◌≤◌, ◌↔◌, Bool, true, false, List, [], ◌∷◌, ◌++◌, Option, None, Some, IfSome, IsTrue, Result, length, map, slice_get, slice_index_or, chars, Contains}
 use Rattle.grammar_model.specs.Trees.{Tree}
-use Rattle.grammar_model.specs.Steps.{steps_of}
+use Rattle.grammar_model.specs.Steps.{Step, steps_of}
 use Rattle.grammar_model.specs.Values.{Token}
 use Rattle.grammar_model.specs.declared.Ranking.{Ranking}
 use Rattle.grammar_model.specs.declared.limits.TheConstants.{LONGEST_CURSOR}
@@ -17,7 +17,9 @@ use Rattle.tree_iter.specs.Iteration.{AreGiven, begun}
 use Rattle.text_reading.specs.Parts.{HasForest}
 use Rattle.valuator.specs.Play.{tokens_of}
 use Rattle.tree_fold.specs.Values.{HasValue, Fails, IsAsked}
-use Rattle.slif_parser.specs.Views.{Read, ForestOf, DerivationsOf}
+use Rattle.slif_parser.specs.Views.{Read, ForestOf, FirstOf, DerivationsOf}
+use Rattle.slif_parser.specs.declared.first.Derived.{Derived}
+use Rattle.slif_parser.specs.declared.first.Derived.TheVariants.{Only, Forest}
 
 -- the bytes are read to their end in these pieces, with these lexemes given, and this is seen of it
 pub record IsReadAs (b : Built) (lexemes bytes : List ℕ) (r : Read) : Type 0 where
@@ -39,11 +41,14 @@ pub record IsBegun (f : ForestOf) (d : DerivationsOf) : Type 0 where
   pub is : d.iteration ≡ begun f.forest
   pub none : AreGiven d.iteration []
 
--- the list is that of all derivations, in the declared order
-pub record AreAll (d : DerivationsOf) (trees : List Tree) : Type 0 where
+-- the list is that of all derivations of what is read, in the declared order
+pub record AreAllOf (r : Read) (ranking : Ranking) (trees : List Tree) : Type 0 where
   pub pieces : List Piece
-  pub reading : IsReadingWith d.read.grammar d.read.lexemes d.read.characters pieces End
-  pub all : AreDerivations d.read.grammar d.iteration.forest.ranking pieces trees
+  pub reading : IsReadingWith r.grammar r.lexemes r.characters pieces End
+  pub all : AreDerivations r.grammar ranking pieces trees
+
+abbrev pub AreAll : DerivationsOf → List Tree → Type 0
+AreAll d trees = AreAllOf d.read d.iteration.forest.ranking trees
 
 -- these are the first of them
 abbrev pub IsPrefixOfAll : DerivationsOf → List Tree → Type 0
@@ -72,6 +77,20 @@ pub record LacksCursor (d : DerivationsOf) (cursor : List ℕ) : Type 0 where
   pub trees : List Tree
   pub all : AreAll d trees
   pub none : (tree : Tree) → Contains trees tree → IsCursorOf cursor tree → ⊥
+
+-- it has the steps of the first derivation, and tells whether that is the only one
+pub record IsFirst (r : Read) (ranking : Ranking) (f : FirstOf) : Type 0 where
+  pub read_is : f.read ≡ r
+  pub tree : Tree
+  pub others : List Tree
+  pub all : AreAllOf r ranking (tree ∷ others)
+  pub steps_are : f.steps ≡ steps_of tree
+  pub only : IsTrue f.only ↔ (others ≡ [])
+
+-- the only derivation, or the forest of the derivations
+abbrev pub IsDerivedAs : Read → Ranking → Derived → Type 0
+IsDerivedAs r ranking (Only first) = IsFirst r ranking first × IsTrue first.only
+IsDerivedAs r ranking (Forest forest) = IsForestAs r ranking forest
 
 -- where the derivations of what is read differ; the places count tokens
 pub record AreGladesOf (r : Read) (glades : List Glade) : Type 0 where
@@ -104,25 +123,31 @@ end_at spans (suc k) = end_of (slice_get spans k)
 abbrev pub start_at : List Span → (place : ℕ) → ℕ
 start_at spans place = start_or (end_at spans place) (slice_get spans place)
 
--- THE VALUE OF THE CURRENT DERIVATION
+-- THE VALUE OF A DERIVATION
 
 module _ {S V E : Type 0} (token_gives : S → S → ℕ → List ℕ → Token → Result V E → Type 0)
     (nulled_gives : S → S → ℕ → List ℕ → Result V E → Type 0)
-    (rule_gives : S → S → ℕ → List ℕ → List V → Result V E → Type 0) (d : DerivationsOf) where
-  abbrev tokens : List Token
-  tokens = tokens_of d.read.characters d.read.spans
+    (rule_gives : S → S → ℕ → List ℕ → List V → Result V E → Type 0) where
+  -- the tree that has these steps has the value, and the semantics goes from one state to the other
+  abbrev pub ValueOf : Read → List Step → (before : S) → V → (after : S) → Type 0
+  ValueOf r steps before v after = (t : Tree) → steps ≡ steps_of t →
+      HasValue token_gives nulled_gives rule_gives r.grammar.g1 (tokens_of r.characters r.spans) t before v after
 
-  -- the tree of the derivation has the value, and the semantics goes from one state to the other
-  abbrev pub ValueBy : (before : S) → V → (after : S) → Type 0
-  ValueBy before v after = (t : Tree) → d.iteration.current ≡ Some (steps_of t) →
-      HasValue token_gives nulled_gives rule_gives d.read.grammar.g1 tokens t before v after
+  -- one of the steps gives the error
+  abbrev pub FailsOf : Read → List Step → (before : S) → E → (after : S) → Type 0
+  FailsOf r steps before e after = Fails token_gives nulled_gives rule_gives r.grammar.g1 (tokens_of r.characters r.spans) steps before e after
 
-  -- one of its steps gives the error
-  abbrev pub FailsBy : (before : S) → E → (after : S) → Type 0
-  FailsBy before e after = IfSome d.iteration.current
-      (λ steps. Fails token_gives nulled_gives rule_gives d.read.grammar.g1 tokens steps before e after)
+  -- it was asked for the first of the steps
+  abbrev pub IsAskedOf : Read → List Step → (before after : S) → Type 0
+  IsAskedOf r steps before after = IsAsked token_gives nulled_gives rule_gives r.grammar.g1 (tokens_of r.characters r.spans) steps before after
 
-  -- it was asked for the first of its steps
-  abbrev pub IsAskedBy : (before after : S) → Type 0
-  IsAskedBy before after = IfSome d.iteration.current
-      (λ steps. IsAsked token_gives nulled_gives rule_gives d.read.grammar.g1 tokens steps before after)
+  -- those of the current derivation
+  abbrev pub ValueBy : DerivationsOf → (before : S) → V → (after : S) → Type 0
+  ValueBy d before v after = (t : Tree) → d.iteration.current ≡ Some (steps_of t) →
+      HasValue token_gives nulled_gives rule_gives d.read.grammar.g1 (tokens_of d.read.characters d.read.spans) t before v after
+
+  abbrev pub FailsBy : DerivationsOf → (before : S) → E → (after : S) → Type 0
+  FailsBy d before e after = IfSome d.iteration.current (λ steps. FailsOf d.read steps before e after)
+
+  abbrev pub IsAskedBy : DerivationsOf → (before after : S) → Type 0
+  IsAskedBy d before after = IfSome d.iteration.current (λ steps. IsAskedOf d.read steps before after)

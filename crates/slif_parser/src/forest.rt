@@ -1,9 +1,11 @@
 //! The forest of an input's derivations.
-ghost use Rattle.std.specs.Prelude.{◌≡◌, ◌+◌, ◌<◌, All, slice_range, IfOk, IfErr, chars as chars_in};
+ghost use Rattle.std.specs.Prelude.{◌≡◌, ◌<◌, slice_range, IfOk, IfErr, chars as chars_in};
 ghost use Rattle.grammar_model.specs.declared.Ranking.TheVariants.{Rule};
+ghost use Rattle.text_reading.specs.Parts.{HasForest};
 ghost use Rattle.text_reading.specs.Refusals.{IsNoDerivation, TellsInput};
 ghost use Rattle.slif_parser.specs.Readings.{AreGladesOf, IsForestAs, IsBegun, end_at, start_at};
 
+use crate::places::{end_of, start_of, text_between};
 use crate::{Derivations, NoMemory, Ranking, Reading};
 use glades::{Glade, report_glades};
 use grammar_core::{Span, SymbolId};
@@ -69,13 +71,7 @@ pub fn forest_with<'r, L: Ledger>(
         &reading.tokens,
         &mut steps,
     ) {
-        Ok(forest) => Ok(Forest {
-            prepared: reading.prepared,
-            lexemes: reading.lexemes.as_slice(),
-            chars: &reading.chars,
-            spans: reading.tokens.spans.as_slice(),
-            forest,
-        }),
+        Ok(forest) => Ok(Forest::of(reading, forest)),
         Err(refusal) => Err(refusal),
     }
 }
@@ -98,6 +94,21 @@ fn glades_with<L: Ledger>(
 }
 
 impl<'r> Forest<'r> {
+    /// That of a reading.
+    pub(crate) fn of(reading: &'r Reading<'r>, forest: bocage::Forest<'r>) -> Forest<'r>
+        requires { HasForest reading.now.grammar reading.now.lexemes forest.ranking
+            reading.now.characters reading.now.spans forest }
+        ensures { result ≡ record { read = reading.now; forest = forest } }
+    {
+        Forest {
+            prepared: reading.prepared,
+            lexemes: reading.lexemes.as_slice(),
+            chars: &reading.chars,
+            spans: reading.tokens.spans.as_slice(),
+            forest,
+        }
+    }
+
     /// The derivations, one after another; it stands before the first.
     pub fn derivations(&self, alloc: Global) -> Result<Derivations<'_>, NoMemory>
         ensures { IfOk result (IsBegun self.now) }
@@ -125,10 +136,8 @@ impl<'r> Forest<'r> {
     pub fn start(&self, place: u32) -> u32
         ensures { result ≡ start_at self.now.read.spans place }
     {
-        match self.spans.get(place as usize) {
-            Some(span) => span.start,
-            None => self.end(place),
-        }
+        self.prepared.known();
+        start_of(self.spans, place)
     }
 
     /// The character where the token before a place ends; 0 where there is no such token.
@@ -143,20 +152,6 @@ impl<'r> Forest<'r> {
     pub fn text(&self, start: u32, end: u32) -> &str
         ensures { chars_in result.now ≡ slice_range self.now.read.characters start end }
     {
-        let end = (end as usize).min(self.chars.len());
-        let start = (start as usize).min(end);
-        self.chars.text(start, end)
+        text_between(self.chars, start, end)
     }
-}
-
-// Where the token before a place ends, and 0 where there is none.
-fn end_of(spans: &[Span], place: u32) -> u32
-    requires { All (λ s. s.start + s.length < 4294967296) spans.now }
-    ensures { result ≡ end_at spans.now place }
-{
-    if place == 0 || place as usize > spans.len() {
-        return 0;
-    }
-    let span = spans[place as usize - 1];
-    span.start + span.length
 }

@@ -4,15 +4,18 @@
 
 mod derivations;
 mod error;
+mod first;
 mod forest;
 mod grammar;
 mod lines;
+mod places;
 mod reading;
 mod rules;
 mod supplying;
 
 pub use derivations::Derivations;
 pub use error::ParseError;
+pub use first::{Derived, First};
 pub use forest::Forest;
 pub use glades::{Glade, Shape, Starts};
 pub use grammar::Grammar;

@@ -8,6 +8,6 @@ use Rattle.c_handles.proofs.derivations.keep.Goals as goal
 
 pub returns-clause-steps : goal.returns-clause-steps
 returns-clause-steps c = λ t stands.
-    let row = c.in_ok-steps.ensures ∙ ap (map (laid c.args.forest.now.read)) (subst (λ o. IfSome o (λ current. map step_of c.steps.result.now ≡ current)) stands c.steps.ensures) in
+    let row = c.in_ok-steps.ensures ∙ ap (map (laid c.args.reading.now)) (subst (λ o. IfSome o (λ current. map step_of c.steps.result.now ≡ current)) stands c.steps.ensures) in
     on_ok_weaker c.keep_line.result (λ _. ap (map (λ steps. steps.items)) c.in_ok-push.ensures.items ∙
     (map_push (λ steps. steps.items) c.args.parse.now.derivations.items c.in_ok-steps.steps ∙ ap (λ x. map (λ steps. steps.items) c.args.parse.now.derivations.items ++ x ∷ []) row)) (c.keep_line.ensures t stands)

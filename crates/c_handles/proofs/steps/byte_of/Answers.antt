@@ -7,4 +7,4 @@ use Rattle.c_handles.proofs.steps.byte_of.Goals as goal
 pub returns : goal.returns
 returns c =
     ap length (sym (encodes-chars c.text.result.now c.text.utf8)) ∙
-    ap (λ cs. length (encode_utf8_all cs)) (c.text.ensures ∙ between_from_start c.args.forest.now.read.characters c.args.character)
+    ap (λ cs. length (encode_utf8_all cs)) (c.text.ensures ∙ between_from_start c.args.reading.now.characters c.args.character)

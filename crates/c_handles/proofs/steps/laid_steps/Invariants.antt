@@ -4,4 +4,4 @@ use Rattle.c_handles.specs.Steps.{laid}
 use Rattle.c_handles.proofs.steps.laid_steps.Given as goal
 
 abbrev pub invariant-loop-step : goal.invariant-loop-step
-invariant-loop-step l = l.all.items ≡ map (laid l.forest.read) (map step_of (take l.step-index l.steps))
+invariant-loop-step l = l.all.items ≡ map (laid l.reading) (map step_of (take l.step-index l.steps))

@@ -1,20 +1,16 @@
-use Rattle.std.proofs.Common.{List, ℕ, sym, subst}
+use Rattle.std.proofs.Common.{sym, subst}
 use Rattle.grammar_model.specs.declared.Ranking.{Ranking}
-use Rattle.grammar_core.specs.declared.steps.Span.{Span}
 use Rattle.text_reading.specs.Refusals.{IsNoDerivation, TellsInput}
 use Rattle.text_reading.specs.Parts.{HasForest}
 use Rattle.slif_parser.specs.Views.{Read}
 use Rattle.slif_parser.proofs.forest.forest_with.Goals as goal
 
-pub invariant_of-result : goal.invariant_of-result
-invariant_of-result g c =
-    let b = c.reading.inside.prepared.now in
-    let cs = c.reading.inside.chars in
+pub of-requires : goal.of-requires
+of-requires g c =
     let f = c.in-Ok.forest in
     let has = c.in-Ok.ensures.forest c.reading.inside.lexemes.items c.reading.invariant.reading in
-    subst (λ (l : List ℕ). HasForest b l f.ranking cs c.as_slice-in-Ok.result.now f) (sym c.as_slice.ensures.value)
-    (subst (λ (s : List Span). HasForest b c.reading.inside.lexemes.items f.ranking cs s f) (sym c.as_slice-in-Ok.ensures.value)
-    (subst (λ (r : Ranking). HasForest b c.reading.inside.lexemes.items r cs c.reading.inside.tokens.spans.items f) (sym has.ranking_is) has))
+    subst (λ (r : Read). HasForest r.grammar r.lexemes f.ranking r.characters r.spans f) c.reading.view_is
+    (subst (λ (k : Ranking). HasForest c.reading.inside.prepared.now c.reading.inside.lexemes.items k c.reading.inside.chars c.reading.inside.tokens.spans.items f) (sym has.ranking_is) has)
 
 pub returns-clause-refused : goal.returns-clause-refused
 returns-clause-refused g c =
