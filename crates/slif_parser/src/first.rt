@@ -23,7 +23,7 @@ use slif_base::{Chars, Steps};
 use std::alloc::Global;
 use std::marker::{Brand, Model};
 use std::sync::ledger::{Blank, Ledger};
-use text_reading::{Refusal, first_of, forest_after};
+use text_reading::{Refusal, first_of, forest_after, only_of};
 use tree_cursor::write_cursor;
 use tree_fold::fold_steps;
 
@@ -119,20 +119,18 @@ fn derived_with<'r, L: Ledger>(
     reading.prepared.known();
     let mut before = Given::new(alloc);
     let mut steps = Steps::<L>::of_blank(blank);
-    match first_of(
+    match only_of(
         alloc,
         reading.prepared,
         ranking,
-        true,
+        None,
         &reading.chars,
         &reading.tokens,
         &mut before,
         &mut steps,
     ) {
-        Ok(Some(walked)) if walked.alone => {
-            Ok(Derived::Only(First::of(reading, walked.steps, walked.alone)))
-        }
-        Ok(_) => match forest_after(
+        Ok(Some(found)) => Ok(Derived::Only(First::of(reading, found, true))),
+        Ok(None) => match forest_after(
             alloc,
             &reading.arena,
             reading.prepared,

@@ -98,7 +98,7 @@ impl<'r> Forest<'r> {
     pub(crate) fn of(reading: &'r Reading<'r>, forest: bocage::Forest<'r>) -> Forest<'r>
         requires { HasForest reading.now.grammar reading.now.lexemes forest.ranking
             reading.now.characters reading.now.spans forest }
-        ensures { result ≡ record { read = reading.now; forest = forest } }
+        ensures { result ≡ record { read = reading.now; forest = forest.entry } }
     {
         Forest {
             prepared: reading.prepared,

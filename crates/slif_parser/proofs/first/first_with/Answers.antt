@@ -31,7 +31,7 @@ returns-in-Ok-Some-clause-first g c =
     (subst (λ (r : Read). IsFirst r c.args.ranking (record { read = r; steps = map step_of walked.steps.items; only = walked.alone })) c.reading.view_is
     (found b c.known.ensures.accepted.checked.structural c.known.ensures.ranges c.reading.inside.lexemes.items c.args.ranking cs spans recce (map step_of walked.steps.items) walked.alone has))
 
-pub returns-in-Err-clause-refused : goal.returns-in-Err-clause-refused
-returns-in-Err-clause-refused g c =
+pub returns-clause-refused : goal.returns-clause-refused
+returns-clause-refused g c =
     subst (λ (r : Read). TellsInput (IsNoDerivation r.grammar r.lexemes c.args.ranking r.characters) c.in-Err.refusal) c.reading.view_is
     (c.in-Err.ensures.refused c.reading.inside.lexemes.items c.reading.invariant.reading)
