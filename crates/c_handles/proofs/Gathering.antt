@@ -144,12 +144,13 @@ pub one_some : (r : Read) (ranking : Ranking) (shown : Option Show) (f : FirstOf
 one_some r ranking shown f skip most p first one none some few =
     let last : (most ≡ 1) ⊎ (first.others ≡ []) = elim few [ | inl is ↦ inl is | inr only ↦ inr (first.only.0 only) ] in
     let front = front_is most first.tree first.others some last in
+    let beyond = more_is f.only p.more most first.others some last first.only one.more in
     subst (λ n. AreSome r ranking shown n most p) (sym none) (record {
       trees = first.tree ∷ first.others;
       all = first.all;
       kept = one.kept first.tree first.steps_are ∙ ap (map (laid_tree r)) (sym front);
       lines = one.lines first.tree first.steps_are ∙ ap (lines_of r shown) (sym front);
-      more = more_is f.only p.more most first.others some last first.only one.more;
+      more = (λ is. omega (arith, beyond.0 is), λ lt. beyond.1 (omega (arith, lt)));
     })
 
 -- the only one is passed over

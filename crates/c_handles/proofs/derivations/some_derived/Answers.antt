@@ -1,4 +1,4 @@
-use Rattle.std.proofs.Common.{sym, subst}
+use Rattle.std.proofs.Common.{subst}
 use Rattle.std.proofs.lemmas.Result.{IfOk-weaker}
 use Rattle.slif_parser.specs.Readings.{IsDerivedAs}
 use Rattle.c_handles.proofs.Gathering.{of_forest}

@@ -1,4 +1,4 @@
-use Rattle.std.proofs.Common.{◌≡◌, ap, ◌∙◌, subst}
+use Rattle.std.proofs.Common.{◌≡◌, length, ap, ◌∙◌, subst}
 use Rattle.std.proofs.lemmas.Result.{IfOk-weaker}
 use Rattle.c_handles.specs.Kept.{AreSome}
 use Rattle.c_handles.proofs.Gathering.{too_few}
@@ -13,7 +13,7 @@ returns-then-branch c =
     let ranked : c.pass.new.derivations.iteration.forest.ranking ≡ c.args.forest.now.forest.ranking = ap (λ f. f.ranking) (c.in_ok-pass.ensures.forest ∙ ap (λ it. it.forest) c.in_ok-derivations.ensures.is) in
     IfOk-weaker c.gather.result _ _
     (λ parse some. subst (λ n. AreSome c.args.reading.now c.args.forest.now.forest.ranking c.args.shown n c.args.most parse) many.2
-    (subst (λ k. AreSome c.args.reading.now k c.args.shown _ c.args.most parse) ranked (some many.0 many.1))) c.gather.ensures
+    (subst (λ k. AreSome c.args.reading.now k c.args.shown (length many.0) c.args.most parse) ranked (some many.0 many.1))) c.gather.ensures
 
 pub returns : goal.returns
 returns c =
