@@ -142,7 +142,7 @@ more_is false more most (t ∷ ts) some (inl one) o is = (λ told. omega (arith,
 
 pub one_some : (r : Read) (ranking : Ranking) (shown : Option Show) (f : FirstOf) (skip most : ℕ) (p : Parse) → IsFirst r ranking f → IsOne r shown f p → skip ≡ 0 → 0 < most → (most ≡ 1) ⊎ IsTrue f.only → AreSome r ranking shown skip most p
 one_some r ranking shown f skip most p first one none some few =
-    let last : (most ≡ 1) ⊎ (first.others ≡ []) = elim few [ | inl is ↦ inl is | inr only ↦ inr (first.only.0 only) ] in
+    let last : (most ≡ 1) ⊎ (first.others ≡ []) = elim few [ inl is ↦ inl is | inr only ↦ inr (first.only.0 only) ] in
     let front = front_is most first.tree first.others some last in
     let beyond = more_is f.only p.more most first.others some last first.only one.more in
     subst (λ n. AreSome r ranking shown n most p) (sym none) (record {

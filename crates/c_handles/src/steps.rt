@@ -35,7 +35,14 @@ fn byte_of(reading: &Reading<'_>, character: u32) -> usize
     reading.text(0, character).len()
 }
 
-fn step_with(reading: &Reading<'_>, kind: u32, number: u32, children: u32, from: u32, to: u32) -> Step
+fn step_with(
+    reading: &Reading<'_>,
+    kind: u32,
+    number: u32,
+    children: u32,
+    from: u32,
+    to: u32,
+) -> Step
     ensures { result ≡ step_over reading.now kind number children from to }
 {
     let start = reading.start(from);
